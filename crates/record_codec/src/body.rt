@@ -1,0 +1,80 @@
+ghost use Rattle.std.specs.Prelude.{◌≡◌, ◌<◌, ◌≤◌, ◌↔◌, length, IfOk, IsErrOf};
+ghost use Rattle.record_codec.specs.declared.body.TheConstants.{MOST_BODY};
+
+use crate::errors::BodyError;
+use quota_table::{Bytes, OutOfMemory};
+use std::alloc::{AllocError, Global};
+use std::marker::Model;
+
+/// The greatest length of a body, in bytes.
+pub const MOST_BODY: usize = 1024;
+
+/// What a client submits: at most 1,024 bytes. Contracts see it as that list.
+#[derive(Debug, Drop)]
+pub struct Body {
+    bytes: Bytes,
+}
+
+impl Model for Body {
+    ghost use Rattle.std.specs.Prelude.{ℕ, List, length, ◌≤◌};
+
+    ghost Value = { List ℕ };
+
+    ghost view = { λ b. b.bytes };
+
+    ghost invariant = { λ b. length b.bytes ≤ 1024 };
+}
+
+impl Clone for Body {
+    ghost is_clone = { λ a b. b ≡ a };
+
+    fn clone(&self) -> Result<Body, AllocError> {
+        Ok(Body {
+            bytes: self.bytes.clone()?,
+        })
+    }
+}
+
+impl PartialEq for Body {
+    ghost use Rattle.std.specs.Prelude.{nat_eq};
+    ghost use Rattle.std.specs.Cmp.Lexicographic.{pointwise};
+    ghost use Rattle.std.proofs.Common.{rules};
+
+    ghost eq = { pointwise nat_eq };
+
+    ghost laws = { Prim.search rules };
+
+    fn eq(&self, other: &Body) -> bool {
+        self.bytes == other.bytes
+    }
+}
+
+impl Body {
+    /// The body of these bytes, or `TooLong` exactly where there are more than 1,024.
+    pub fn new(alloc: Global, bytes: &[u8]) -> Result<Body, BodyError>
+        ensures body { IfOk result (λ body. body ≡ bytes.now) }
+        ensures fits { IfOk result (λ _. length bytes.now ≤ MOST_BODY) }
+        ensures too_long { IsErrOf result (BodyError.TooLong (length bytes.now)) ↔ (MOST_BODY < length bytes.now) }
+    {
+        if bytes.len() > MOST_BODY {
+            return Err(BodyError::TooLong { len: bytes.len() });
+        }
+        Ok(Body {
+            bytes: Bytes::from_slice(alloc, bytes)?,
+        })
+    }
+
+    pub fn as_slice(&self) -> &[u8]
+        ensures bytes { result.now ≡ self.now }
+        ensures within { length self.now ≤ MOST_BODY }
+    {
+        self.bytes.as_slice()
+    }
+
+    pub fn len(&self) -> usize
+        ensures len { result ≡ length self.now }
+        ensures within { length self.now ≤ MOST_BODY }
+    {
+        self.bytes.len()
+    }
+}

@@ -1,0 +1,20 @@
+use crate::body::Body;
+use quota_table::Listed;
+
+/// One record of the log.
+#[derive(Clone, Debug, Drop, PartialEq)]
+pub enum Record {
+    /// What a client submitted.
+    Data {
+        /// The client's number, 0 to 5.
+        client: u32,
+        /// How many the client submitted before it, at most 2^48.
+        number: u64,
+        body: Body,
+    },
+    /// Fills a place that no client's record took in time.
+    Noop,
+}
+
+/// A list of records.
+pub type Log = Listed<Record>;
