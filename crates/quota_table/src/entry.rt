@@ -3,7 +3,7 @@ use crate::table::Table;
 /// What the sequencers agree on: one entry for each slot.
 ///
 /// An entry that does not fit the state in which it is applied is void, and changes nothing.
-#[derive(Clone, Drop, PartialEq)]
+#[derive(Clone, Debug, Drop, PartialEq)]
 pub enum Entry {
     /// Nothing happens.
     Nothing,

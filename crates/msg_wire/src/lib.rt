@@ -1,0 +1,24 @@
+//! What nodes tell one another, store and take: messages, items, events, and the lists of them.
+//!
+//! - [`Config`], [`Plan`], [`Input`]: a cluster, a threaded run of it, one input of a script.
+//! - [`Message`], [`What`], [`Item`]: what a node sends, and what its vault keeps.
+//! - [`Event`], [`Command`], [`Mark`], [`Step`]: what a step takes, and what it gives.
+#![tactic(auto)]
+
+mod config;
+mod event;
+mod input;
+mod item;
+mod mark;
+mod message;
+mod plan;
+mod step;
+
+pub use config::{Config, Homes};
+pub use event::{Command, Event};
+pub use input::{Input, Inputs};
+pub use item::{Item, Items};
+pub use mark::{Mark, Marks};
+pub use message::{Message, Messages, What};
+pub use plan::{Plan, PlanLine, PlanLines};
+pub use step::Step;
