@@ -1,0 +1,19 @@
+/// A row of a window.
+#[derive(Clone, Copy, Debug, Default, PartialEq, Eq)]
+pub struct Spot {
+    /// The shard's number, 0 to 5.
+    pub shard: u8,
+    /// Positions in each round, 1 to 64.
+    pub quota: u8,
+    /// The shard's first local in the window, at most the window's base.
+    pub start: u64,
+}
+
+/// Who has a position: a record of a shard.
+#[derive(Clone, Copy, Debug, Default, PartialEq, Eq)]
+pub struct Owner {
+    /// The shard's number, 0 to 5.
+    pub shard: u8,
+    /// The record's place in the shard's log, from 0.
+    pub local: u64,
+}

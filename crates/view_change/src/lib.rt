@@ -1,0 +1,12 @@
+//! Failed positions: what the removal of a shard changes, and how far a consumer goes back.
+//!
+//! - [`first_failed`]: the least position that has another owner after the removal.
+//! - [`surviving`]: how much of what was applied stays.
+//! - [`remap`]: who had a position, and who has it now.
+#![tactic(auto)]
+
+mod moved;
+mod removals;
+
+pub use moved::Moved;
+pub use removals::surviving;
