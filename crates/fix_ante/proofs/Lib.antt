@@ -1,1 +1,5 @@
 pub mod WindowLemmas
+pub mod Entries
+pub mod LayoutLemmas
+pub mod PositionLemmas
+pub mod Successors

@@ -1,5 +1,5 @@
 use Rattle.std.specs.Prelude.{ℕ, ◌+◌, ◌*◌, ◌^◌, ◌<◌, ◌≤◌, ◌==◌, Bool, nat_le, nat_eq, if◌then◌else◌, List, [], ◌∷◌, map, IsTrue}
-use Rattle.std.specs.List.{list_all}
+use Rattle.std.specs.List.{list_any, list_all}
 use Rattle.std.specs.Ordering.{on, eq_of_both}
 use Rattle.std.specs.Cmp.Lexicographic.{pointwise}
 use Rattle.quota_table.specs.declared.rows.Row.{Row}
@@ -20,6 +20,10 @@ row_of s = record { shard = s.shard; quota = s.quota }
 
 abbrev pub rows_of : List Spot → List Row
 rows_of = map row_of
+
+-- one of the rows is this shard's
+abbrev pub has_row : ℕ → List Spot → Bool
+has_row shard = list_any (λ (s : Spot). s.shard == shard)
 
 -- positions in a round
 abbrev pub width_of : Window → ℕ

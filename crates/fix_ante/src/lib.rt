@@ -9,6 +9,6 @@ mod positions;
 mod spots;
 mod window;
 
-pub use positions::place;
+pub use positions::{owner, place};
 pub use spots::{Owner, Spot};
-pub use window::{Window, first};
+pub use window::{Window, first, next, without};

@@ -1,6 +1,6 @@
-ghost use Rattle.std.specs.Prelude.{◌≡◌, ◌≤◌};
+ghost use Rattle.std.specs.Prelude.{◌≡◌, ◌<◌, ◌≤◌, ◌^◌, ℕ, IsTrue, length, slice_index};
 ghost use Rattle.std.specs.List.{All};
-ghost use Rattle.fix_ante.specs.Windows.{IsWindow, IsSpot, width_of, end_of, first_of};
+ghost use Rattle.fix_ante.specs.Windows.{IsWindow, IsSpot, has_row, width_of, end_of, first_of, next_of, without_of, start_after};
 
 use crate::spots::Spot;
 use arrayvec::ArrayVec;
@@ -92,6 +92,13 @@ impl Window {
         self.spots.as_slice()
     }
 
+    /// Whether one of the rows is this shard's.
+    pub fn is_row(&self, shard: u8) -> bool
+        ensures { result ≡ has_row shard self.now.spots }
+    {
+        self.spots.iter().any(|spot| spot.shard == shard)
+    }
+
     /// Positions in a round: the sum of the quotas, 1 to 384.
     pub fn width(&self) -> u32
         ensures width { result ≡ width_of self.now }
@@ -147,6 +154,71 @@ pub fn first(rounds: u16, table: &Table) -> Window
         number: 0,
         base: 0,
         rounds,
+        spots,
+    }
+}
+
+/// The window of a table that follows all rounds of this one. A shard goes on with its next local; one that is new
+/// begins with local 0. It takes no memory.
+pub fn next(window: &Window, number: u32, rounds: u16, table: &Table) -> Window
+    requires some { 1 ≤ rounds }
+    requires most { rounds ≤ 1024 }
+    requires end { end_of window.now ≤ 2 ^ 48 }
+    ensures next { result ≡ next_of window.now number rounds table.now }
+    ensures valid { IsWindow result }
+{
+    let starts = starts_after(window, window.rounds());
+    let mut spots = ArrayVec::new();
+    for row in table.rows() {
+        spots.push(Spot {
+            shard: row.shard,
+            quota: row.quota,
+            start: starts[usize::from(row.shard)],
+        });
+    }
+    Window {
+        number,
+        base: window.end(),
+        rounds,
+        spots,
+    }
+}
+
+/// Where each shard's locals go on after the first rounds of the window.
+fn starts_after(window: &Window, rounds: u16) -> [u64; 6]
+    requires { rounds ≤ 1024 }
+    ensures { (shard : ℕ) → shard < 6 → slice_index result shard ≡ start_after window.now.spots rounds shard }
+{
+    let mut starts = [0; 6];
+    for spot in window.spots() {
+        starts[usize::from(spot.shard)] = spot.start + u64::from(rounds) * u64::from(spot.quota);
+    }
+    starts
+}
+
+/// The window that a removal leaves: after the covered rounds of this one the other rows go on, for as many rounds.
+/// It takes no memory.
+pub fn without(window: &Window, number: u32, covered: u16, shard: u8) -> Window
+    requires row { IsTrue (has_row shard window.now.spots) }
+    requires another { 2 ≤ length window.now.spots }
+    requires covered { covered < window.now.rounds }
+    requires end { end_of window.now ≤ 2 ^ 48 }
+    ensures without { result ≡ without_of window.now number covered shard }
+    ensures valid { IsWindow result }
+{
+    let mut spots = ArrayVec::new();
+    for spot in window.spots() {
+        if spot.shard != shard {
+            spots.push(Spot {
+                start: spot.start + u64::from(covered) * u64::from(spot.quota),
+                ..*spot
+            });
+        }
+    }
+    Window {
+        number,
+        base: window.base() + u64::from(covered) * u64::from(window.width()),
+        rounds: window.rounds(),
         spots,
     }
 }

@@ -1,6 +1,6 @@
 use Rattle.std.proofs.Common.{◌≡◌, ◌*◌, ◌≤◌, drop}
 use Rattle.fix_ante.specs.Positions.{index_among}
-use Rattle.fix_ante.proofs.positions.place.Given as goal
+use Rattle.fix_ante.proofs.positions.index_of.Given as goal
 
 abbrev pub invariant-loop-spot : goal.invariant-loop-spot
 invariant-loop-spot l =
