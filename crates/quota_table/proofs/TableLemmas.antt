@@ -67,7 +67,7 @@ IsTable-from_fault rows some few e = record {
   distinct = rows_distinct [] rows e;
 }
 
-row_bounds : (r : Row) (rs : List Row) → list_all is_row (r ∷ rs) ≡ true → (1 ≤ r.quota) × (r.quota ≤ 64) × (list_all is_row rs ≡ true)
+pub row_bounds : (r : Row) (rs : List Row) → list_all is_row (r ∷ rs) ≡ true → (1 ≤ r.quota) × (r.quota ≤ 64) × (list_all is_row rs ≡ true)
 row_bounds r rs e = grind (arith, nat_tests)
 
 -- each row has 1 to 64 positions in a round
