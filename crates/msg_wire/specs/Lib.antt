@@ -1,1 +1,4 @@
 pub mod Names
+pub mod Valid
+pub mod Messages
+pub mod Items
