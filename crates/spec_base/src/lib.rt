@@ -5,5 +5,7 @@
 #![tactic(auto)]
 
 mod node;
+mod spelling;
 
 pub use node::{NodeId, Side};
+pub use spelling::{NodeName, spell, unspell};
