@@ -103,4 +103,25 @@ impl Bytes {
     {
         self.items.truncate(len);
     }
+
+    /// Puts three pieces at the end, one after the other. At an error the bytes are as before.
+    pub fn extend_from_parts(
+        &mut self,
+        first: &[u8],
+        second: &[u8],
+        third: &[u8],
+    ) -> Result<(), OutOfMemory>
+        ensures ok { OnOk result (self.new ≡ self.old ++ first.now ++ second.now ++ third.now) }
+        ensures err { OnErr result (self.new ≡ self.old) }
+    {
+        let before = self.items.len();
+        self.items.extend_from_slice(first)?;
+        if self.items.extend_from_slice(second).is_err()
+            || self.items.extend_from_slice(third).is_err()
+        {
+            self.items.truncate(before);
+            return Err(OutOfMemory);
+        }
+        Ok(())
+    }
 }
