@@ -1,0 +1,18 @@
+use Rattle.std.specs.Prelude.{ℕ, ◌^◌, ◌&&◌, ◌==◌, nat_le, if◌then◌else◌, Bool, true, false, Option, Some, None}
+use Rattle.record_codec.specs.declared.record.Record.{Record}
+use Rattle.record_codec.specs.declared.record.Record.TheVariants.{Data, Noop}
+
+-- a record within the limits: its client at most 5, its number at most 2^48
+abbrev pub is_within : Record → Bool
+is_within (Data client number body) = nat_le client 5 && nat_le number (2 ^ 48)
+is_within Noop = true
+
+-- the record's number, where it is the client's
+abbrev pub number_by : ℕ → Record → Option ℕ
+number_by client (Data owner number body) = if owner == client then Some number else None
+number_by client Noop = None
+
+-- the record is the client's and has this number
+abbrev pub has_number : ℕ → ℕ → Record → Bool
+has_number client number (Data owner own body) = (owner == client) && (own == number)
+has_number client number Noop = false
