@@ -1,3 +1,6 @@
 pub mod Records
 pub mod ShardLog
 pub mod Calls
+pub mod Places
+pub mod Index
+pub mod Indexed

@@ -1,10 +1,12 @@
 //! A shard's log: its records in order of local, and the answers to what is appended.
 //!
-//! Every answer is a function of the list of records alone.
-//!
+//! - [`ShardLog`]: a list of records that only grows at its end. Every answer is a function of that list alone.
 //! - [`Appended`], [`Grown`]: what became of a client's record, and of a record meant for one local.
 #![tactic(auto)]
 
 mod answers;
+mod index;
+mod log;
 
 pub use answers::{Appended, Grown};
+pub use log::ShardLog;
