@@ -1,3 +1,5 @@
 pub mod PlaceLemmas
 pub mod IndexLemmas
 pub mod LogLemmas
+pub mod NumberLemmas
+pub mod LawLemmas

@@ -11,7 +11,7 @@ use Rattle.shard_log.specs.declared.index.Place.{Place}
 use Rattle.shard_log.specs.Records.{is_within, number_by}
 use Rattle.shard_log.specs.Places.{place_by, places_from, places_of, last_below, first_with}
 use Rattle.shard_log.specs.Indexed.{IsIndexed}
-use Rattle.shard_log.proofs.PlaceLemmas.{option_or-none}
+use Rattle.shard_log.proofs.PlaceLemmas.{option_or-none, cons_option-nil}
 use Rattle.shard_log.specs.ShardLog.{last_of, local_of}
 
 -- a local counted from the next record on
@@ -103,10 +103,6 @@ pub list_all-take : (p : Record → Bool) (n : ℕ) (log : List Record) → list
 list_all-take p n log h =
     let joined : list_all p (take n log ++ drop n log) ≡ true = ap (list_all p) (take-append-drop n log) ∙ h in
     (and_parts _ _ (sym (list_all-append p (take n log) (drop n log)) ∙ joined)).0
-
-cons_option-nil : {X : Type 0} (o : Option X) → cons_option o [] ≡ option_to_list o
-cons_option-nil None = refl
-cons_option-nil (Some x) = refl
 
 cons_option-append : {X : Type 0} (o : Option X) (xs ys : List X) → cons_option o (xs ++ ys) ≡ cons_option o xs ++ ys
 cons_option-append None xs ys = refl

@@ -1,6 +1,6 @@
 use Rattle.std.proofs.Common.{◌≡◌, ℕ, zero, suc, ◌+◌, ◌-◌, ◌<◌, ◌≤◌, nat_lt, true, false, List, [], ◌∷◌, ◌++◌, length, take, drop, get_or, Option, Some, None, refl, sym, ap, ◌∙◌, drop-cons, arith}
-use Rattle.std.specs.Option.{option_or, option_map}
-use Rattle.std.specs.List.{slice_get}
+use Rattle.std.specs.Option.{option_or, option_map, option_to_list}
+use Rattle.std.specs.List.{slice_get, cons_option}
 use Rattle.std.specs.List.Sorted.{IsPartitionPoint}
 use Rattle.std.proofs.lemmas.List.{get_or-drop, length-drop, take-append-drop, length-take-le, get_or-take}
 use Rattle.std.proofs.lemmas.Option.{slice_get-get_or}
@@ -14,6 +14,10 @@ option_or_assoc (Some x) b c = refl
 pub option_or-none : {T : Type 0} (a : Option T) → option_or a None ≡ a
 option_or-none None = refl
 option_or-none (Some x) = refl
+
+pub cons_option-nil : {X : Type 0} (o : Option X) → cons_option o [] ≡ option_to_list o
+cons_option-nil None = refl
+cons_option-nil (Some x) = refl
 
 pub first_with-push : (number : ℕ) (ps : List Place) (p : Place) → first_with number (ps ++ p ∷ []) ≡ option_or (first_with number ps) (local_with number p)
 first_with-push number [] p = option_or-none (local_with number p)
