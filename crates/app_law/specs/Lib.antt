@@ -4,5 +4,6 @@ pub mod Decimals
 pub mod Folds
 pub mod Kvs
 pub mod KvStates
+pub mod Positions
 pub mod Tallies
 pub mod Words

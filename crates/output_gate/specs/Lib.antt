@@ -1,0 +1,2 @@
+pub mod Gates
+pub use Rattle.app_law.specs.Positions

@@ -1,0 +1,37 @@
+use arrayvec::ArrayVec;
+use record_codec::Output;
+use std::marker::Model;
+
+/// The greatest number of outputs that one call releases.
+pub const MOST_KEPT: usize = 3;
+
+/// The output of the record at a position.
+#[derive(Debug, Drop)]
+pub struct KeptOut {
+    pub position: u64,
+    pub out: Output,
+}
+
+impl Default for KeptOut {
+    fn default() -> KeptOut {
+        KeptOut {
+            position: 0,
+            out: Output::new(),
+        }
+    }
+}
+
+/// At most three outputs that were released, in order. Contracts see it as that list.
+#[derive(Debug, Drop)]
+pub struct Kept {
+    items: ArrayVec<KeptOut, 3>,
+}
+
+impl Model for Kept {
+    ghost use Rattle.std.specs.Prelude.{List};
+    ghost use Rattle.output_gate.specs.declared.kept.KeptOut.{KeptOut};
+
+    ghost Value = { List KeptOut };
+
+    ghost view = { λ k. k.items.items };
+}
