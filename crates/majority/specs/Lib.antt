@@ -1,0 +1,6 @@
+pub mod Ballots
+pub mod Acceptors
+pub mod Proposers
+pub mod Votes
+pub mod Journals
+pub mod Slot
