@@ -15,9 +15,13 @@ abbrev pub greatest_at : {V : Type 0} → ℕ → List (VoteJournal V) → Optio
 greatest_at slot [] = None
 greatest_at slot (journal ∷ journals) = greater_report (vote_found (slice_get journal.votes slot)) (greatest_at slot journals)
 
+-- the value that the journals tell for the slot
+abbrev pub value_told : {V : Type 0} → ℕ → List (VoteJournal V) → Option V
+value_told slot journals = option_map (λ vote. vote.1) (greatest_at slot journals)
+
 -- the values that the journals tell: of each slot that of the greatest ballot, up to the first slot without an acceptance
 pub record IsRecovered {V : Type 0} (journals : List (VoteJournal V)) (values : List V) : Type 0 where
-  pub each : (slot : ℕ) → slot < length values → option_map (λ (vote : ℕ × V). vote.1) (greatest_at slot journals) ≡ slice_get values slot
+  pub each : (slot : ℕ) → slot < length values → value_told slot journals ≡ slice_get values slot
   pub ends : greatest_at (length values) journals ≡ None
 
 -- journals of distinct replicas below n

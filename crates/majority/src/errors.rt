@@ -1,5 +1,5 @@
 use quota_table::OutOfMemory;
-use std::alloc::{AllocError, AllocFailed};
+use std::alloc::AllocError;
 use thiserror::Error;
 
 /// Why an attempt does not start. The acceptor is as it was.
@@ -17,6 +17,11 @@ pub enum StartError {
 }
 
 impl From<AllocError> for StartError {
+    ghost use Rattle.std.specs.Prelude.{◌≡◌};
+    ghost use Rattle.majority.specs.declared.errors.StartError.TheVariants as variants;
+
+    ghost from_gives = { λ _ error. error ≡ variants.OutOfMemory };
+
     fn from(_: AllocError) -> StartError {
         StartError::OutOfMemory
     }
@@ -39,19 +44,23 @@ pub enum RecoverError {
 }
 
 impl From<AllocError> for RecoverError {
+    ghost use Rattle.std.specs.Prelude.{◌≡◌};
+    ghost use Rattle.majority.specs.declared.errors.RecoverError.TheVariants as variants;
+
+    ghost from_gives = { λ _ error. error ≡ variants.OutOfMemory };
+
     fn from(_: AllocError) -> RecoverError {
         RecoverError::OutOfMemory
     }
 }
 
 impl From<OutOfMemory> for RecoverError {
-    fn from(_: OutOfMemory) -> RecoverError {
-        RecoverError::OutOfMemory
-    }
-}
+    ghost use Rattle.std.specs.Prelude.{◌≡◌};
+    ghost use Rattle.majority.specs.declared.errors.RecoverError.TheVariants as variants;
 
-impl<T: Drop> From<AllocFailed<T>> for RecoverError {
-    fn from(_: AllocFailed<T>) -> RecoverError {
+    ghost from_gives = { λ _ error. error ≡ variants.OutOfMemory };
+
+    fn from(_: OutOfMemory) -> RecoverError {
         RecoverError::OutOfMemory
     }
 }

@@ -13,9 +13,10 @@ mod errors;
 mod journal;
 mod proposer;
 mod replicas;
+mod report;
 
 pub use acceptor::Acceptor;
 pub use answers::{AcceptAnswer, AcceptedAnswer, PrepareAnswer, PromiseAnswer};
 pub use errors::{RecoverError, StartError};
-pub use journal::{ValueList, VoteJournal, Votes};
-pub use proposer::Proposer;
+pub use journal::{ValueList, VoteJournal, Votes, recover};
+pub use proposer::{BALLOTS, Proposer};

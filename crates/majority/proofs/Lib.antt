@@ -1,0 +1,4 @@
+pub mod Lists
+pub mod Majorities
+pub mod Members
+pub mod Reports

@@ -1,0 +1,46 @@
+-- A list of distinct replicas with one more among them.
+use Rattle.std.proofs.Common.{◌≡◌, ℕ, ◌<◌, Bool, true, false, List, [], ◌∷◌, ◌++◌, length, nat_eq, refl, All, Contains, inl, ◌⊎◌, arith, length-append}
+use Rattle.std.specs.List.{IsDistinct, list_any}
+use Rattle.std.proofs.lemmas.Bool.Decides.{nat_tests}
+use Rattle.std.proofs.lemmas.List.Elements.{All-push, Contains-push_cases}
+use Rattle.majority.specs.Ballots.{with_replica}
+use Rattle.majority.proofs.Lists.{Apart, AreApart, Apart-from_test, IsDistinct-append, IsDistinct-cons, IsDistinct-nil, length-IsDistinct}
+
+AreApart-one : (x : ℕ) (ys : List ℕ) → Apart x ys → AreApart ys (x ∷ [])
+AreApart-one x [] a = tt
+AreApart-one x (y ∷ ys) a =
+    let other : nat_eq y x ≡ false = let given : nat_eq x y ≡ false = a.0 in grind (arith, nat_tests) in
+    ((other, tt), AreApart-one x ys a.1)
+
+-- a number that is not among distinct ones can be put at their end
+pub IsDistinct-push : (x : ℕ) (xs : List ℕ) → IsDistinct nat_eq xs → list_any (nat_eq x) xs ≡ false → IsDistinct nat_eq (xs ++ x ∷ [])
+IsDistinct-push x xs d h =
+    IsDistinct-append xs (x ∷ []) d (IsDistinct-cons x [] tt IsDistinct-nil) (AreApart-one x xs (Apart-from_test x xs h))
+
+-- and there is room for it below a bound
+pub length-push_below : (n x : ℕ) (xs : List ℕ) → All (λ y. y < n) xs → x < n → IsDistinct nat_eq xs → list_any (nat_eq x) xs ≡ false → length xs < n
+length-push_below n x xs b l d h =
+    let most = length-IsDistinct n (xs ++ x ∷ []) (All-push (λ y. y < n) xs x b l) (IsDistinct-push x xs d h) in
+    let more = length-append xs (x ∷ []) in
+    omega (arith, most, more)
+
+pub IsDistinct-with_replica : (x : ℕ) (xs : List ℕ) → IsDistinct nat_eq xs → IsDistinct nat_eq (with_replica x xs)
+IsDistinct-with_replica x xs d = by_test (list_any (nat_eq x) xs) refl
+  where
+    by_test : (b : Bool) → list_any (nat_eq x) xs ≡ b → IsDistinct nat_eq (with_replica x xs)
+    by_test true e = rw e d
+    by_test false e = rw e (IsDistinct-push x xs d e)
+
+pub All-with_replica : (P : ℕ → Type 0) (x : ℕ) (xs : List ℕ) → All P xs → P x → All P (with_replica x xs)
+All-with_replica P x xs a p = by_test (list_any (nat_eq x) xs) refl
+  where
+    by_test : (b : Bool) → list_any (nat_eq x) xs ≡ b → All P (with_replica x xs)
+    by_test true e = rw e a
+    by_test false e = rw e (All-push P xs x a p)
+
+pub Contains-with_replica : (x y : ℕ) (xs : List ℕ) → Contains (with_replica x xs) y → Contains xs y ⊎ (x ≡ y)
+Contains-with_replica x y xs = by_test (list_any (nat_eq x) xs) refl
+  where
+    by_test : (b : Bool) → list_any (nat_eq x) xs ≡ b → Contains (with_replica x xs) y → Contains xs y ⊎ (x ≡ y)
+    by_test true e c = inl (rw e at c)
+    by_test false e c = Contains-push_cases xs x y (rw e at c)

@@ -1,0 +1,55 @@
+-- Of reported acceptances the one of the greatest ballot, and what journals tell of a slot.
+use Rattle.std.proofs.Common.{◌≡◌, ℕ, zero, suc, ◌+◌, ◌<◌, ◌≤◌, List, [], ◌∷◌, ◌++◌, length, Option, Some, None, slice_get, refl, sym, ◌∙◌, All, arith, inl, inr}
+use Rattle.std.proofs.lemmas.Bool.Decides.{nat_tests}
+use Rattle.std.proofs.lemmas.Bool.{cases_lt}
+use Rattle.std.proofs.lemmas.List.Elements.{All-head, All-tail}
+use Rattle.majority.specs.Proposers.{greater_report}
+use Rattle.majority.specs.Journals.{greatest_at, value_told}
+use Rattle.majority.specs.declared.journal.VoteJournal.{VoteJournal}
+
+slice_get-past : {X : Type 0} (xs : List X) (slot : ℕ) → length xs ≤ slot → slice_get xs slot ≡ None
+slice_get-past [] slot h = refl
+slice_get-past (x ∷ xs) zero h = absurd (omega arith)
+slice_get-past (x ∷ xs) (suc slot) h = slice_get-past xs slot (omega arith)
+
+module _ {V : Type 0} where
+  pub greater_report-none : (report : Option (ℕ × V)) → greater_report report None ≡ report
+  greater_report-none None = refl
+  greater_report-none (Some report) = refl
+
+  pub greater_report_assoc : (a b c : Option (ℕ × V)) → greater_report (greater_report a b) c ≡ greater_report a (greater_report b c)
+  greater_report_assoc None b c = refl
+  greater_report_assoc (Some a) None c = refl
+  greater_report_assoc (Some a) (Some b) None = greater_report-none (greater_report (Some a) (Some b))
+  greater_report_assoc (Some a) (Some b) (Some c) = grind (arith, nat_tests)
+
+  pub greatest_at-past : (slot : ℕ) (journals : List (VoteJournal V)) → All (λ (journal : VoteJournal V). length journal.votes ≤ slot) journals → greatest_at slot journals ≡ None
+  greatest_at-past slot [] h = refl
+  greatest_at-past slot (journal ∷ journals) h =
+      let here : slice_get journal.votes slot ≡ None = slice_get-past journal.votes slot (All-head (λ (j : VoteJournal V). length j.votes ≤ slot) journal journals h) in
+      let rest = greatest_at-past slot journals (All-tail (λ (j : VoteJournal V). length j.votes ≤ slot) journal journals h) in
+      rw (here, rest) refl
+
+  slice_get-push : (xs : List V) (x : V) (k : ℕ) → k < length xs → slice_get (xs ++ x ∷ []) k ≡ slice_get xs k
+  slice_get-push [] x k h = absurd (omega arith)
+  slice_get-push (y ∷ xs) x zero h = refl
+  slice_get-push (y ∷ xs) x (suc k) h = slice_get-push xs x k (omega arith)
+
+  slice_get-end : (xs : List V) (x : V) → slice_get (xs ++ x ∷ []) (length xs) ≡ Some x
+  slice_get-end [] x = refl
+  slice_get-end (y ∷ xs) x = slice_get-end xs x
+
+  -- one more value told
+  pub told_more : (journals : List (VoteJournal V)) (values : List V) (slot : ℕ) (vote : ℕ × V) →
+      length values ≡ slot →
+      ((k : ℕ) → k < slot → value_told k journals ≡ slice_get values k) →
+      greatest_at slot journals ≡ Some vote →
+      (k : ℕ) → k < slot + 1 → value_told k journals ≡ slice_get (values ++ vote.1 ∷ []) k
+  told_more journals values slot vote count told here k within =
+      elim (cases_lt k (length values)) [
+        | inl earlier ↦ told k (omega arith) ∙ sym (slice_get-push values vote.1 k earlier)
+        | inr last ↦
+            let same : k ≡ length values = omega arith in
+            let at_slot : k ≡ slot = omega arith in
+            rw same (rw (count, here) (sym (rw (← count) (slice_get-end values vote.1))))
+      ]
