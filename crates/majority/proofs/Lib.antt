@@ -2,3 +2,9 @@ pub mod Lists
 pub mod Majorities
 pub mod Members
 pub mod Reports
+pub mod Agreement
+pub mod Chosen
+pub mod Growth
+pub mod Safety
+pub mod Entries
+pub mod Casts
