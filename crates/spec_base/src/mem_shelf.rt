@@ -1,0 +1,139 @@
+ghost use Rattle.std.specs.Prelude.{◌≡◌, ◌≢◌, ◌+◌, ◌-◌, ◌^◌, ℕ, List, Some, None, min, true, false, IfOk, IfSome, IsSome, is_none};
+ghost use Rattle.spec_base.specs.declared.mem_shelf.MemShelf.{MemShelf as TheShelf};
+
+use crate::disk::Disk;
+use crate::mem_disk::MemDisk;
+use crate::shelf::Shelf;
+use crate::stop::Stop;
+use quota_table::{Bytes, OutOfMemory};
+use std::alloc::{AllocError, Global};
+use std::collections::BTreeMap;
+
+/// A call of a disk on a shelf in memory that is to fail.
+#[derive(Clone, Debug, Drop, PartialEq)]
+pub struct DiskFail {
+    /// The disk's name.
+    pub name: Bytes,
+    /// The number of the call, from 0, over that disk's calls.
+    pub call: u64,
+}
+
+/// What the shelf keeps of a name that was asked for.
+#[derive(Debug, Drop)]
+pub struct Slot {
+    /// The disk; None while it is out.
+    disk: Option<MemDisk>,
+    /// How often it has failed, as far as it has come back.
+    faults: u64,
+    /// The count of faults with which it was last given.
+    given: u64,
+}
+
+/// A shelf of disks in memory. Its `disk` never fails but for want of memory.
+#[derive(Drop)]
+pub struct MemShelf {
+    alloc: Global,
+    fails: Vec<DiskFail>,
+    slots: BTreeMap<String, Slot>,
+}
+
+impl MemShelf {
+    ghost use Rattle.spec_base.specs.MemShelf.{faults_of, is_out_of};
+
+    /// A shelf on which no name has a disk yet. The disk of a name will fail at the calls that `fails` has for it.
+    pub fn new(alloc: Global, fails: &[DiskFail]) -> Result<MemShelf, OutOfMemory>
+        ensures faults { IfOk result (λ shelf. (name : List ℕ) → faults_of shelf name ≡ 0) }
+        ensures none_out { IfOk result (λ shelf. (name : List ℕ) → is_out_of shelf name ≡ false) }
+    {
+        let mut kept = Vec::with_capacity(alloc, fails.len())?;
+        for fail in fails {
+            kept.push(fail.clone()?)?;
+        }
+        Ok(MemShelf {
+            alloc,
+            fails: kept,
+            slots: BTreeMap::new(alloc),
+        })
+    }
+
+    /// An empty disk for a name.
+    fn fresh_disk(&self, name: &str) -> Result<MemDisk, OutOfMemory> {
+        let calls = calls_of(self.alloc, &self.fails, name.as_bytes())?;
+        MemDisk::new(self.alloc, &calls)
+    }
+}
+
+/// The numbers of the calls that fail for a name.
+fn calls_of(alloc: Global, fails: &[DiskFail], name: &[u8]) -> Result<Vec<u64>, AllocError> {
+    let mut calls = Vec::new(alloc);
+    for fail in fails {
+        if fail.name.as_slice() == name {
+            calls.push(fail.call)?;
+        }
+    }
+    Ok(calls)
+}
+
+impl Slot {
+    /// Gives the disk, which is there.
+    fn give(&mut self) -> MemDisk
+        requires { IsSome self.old.disk }
+        ensures disk { self.old.disk ≡ Some result }
+        ensures slot { self.new ≡ record { disk = None; faults = self.old.faults; given = result.plan.faults } }
+    {
+        let Some(disk) = self.disk.take() else {
+            unreachable!()
+        };
+        self.given = disk.fault_count();
+        disk
+    }
+
+    /// Takes the disk back.
+    fn take_back(&mut self, disk: MemDisk)
+        ensures { self.new ≡ record {
+          disk = Some disk;
+          faults = min (self.old.faults + (disk.plan.faults - self.old.given)) (2 ^ 64 - 1);
+          given = self.old.given;
+        } }
+    {
+        let more = disk.fault_count().saturating_sub(self.given);
+        self.faults = self.faults.saturating_add(more);
+        self.disk = Some(disk);
+    }
+}
+
+impl Shelf for MemShelf {
+    type D = MemDisk;
+
+    ghost use Rattle.spec_base.specs.MemShelf.{faults_of, given_of, is_out_of};
+
+    ghost faults = { faults_of };
+
+    ghost is_out = { is_out_of };
+
+    ghost given = { given_of };
+
+    #[tactic(auto, using(std::proofs::lemmas::Map::Text::text_keys))]
+    fn disk(&mut self, name: &str) -> Result<MemDisk, Stop> {
+        if let Some(slot) = self.slots.get_mut(name) {
+            return Ok(slot.give());
+        }
+        let disk = self.fresh_disk(name)?;
+        let slot = Slot {
+            disk: None,
+            faults: 0,
+            given: disk.fault_count(),
+        };
+        self.slots
+            .insert(String::from_str(self.alloc, name)?, slot)?;
+        Ok(disk)
+    }
+
+    #[tactic(auto, using(std::proofs::lemmas::Map::Text::text_keys))]
+    fn back(&mut self, name: &str, disk: MemDisk) {
+        let Some(slot) = self.slots.get_mut(name) else {
+            unreachable!()
+        };
+        slot.take_back(disk);
+    }
+}

@@ -1,0 +1,49 @@
+ghost use Rattle.std.specs.Prelude.{◌≡◌, None, false};
+
+use crate::source::Source;
+use crate::stop::Stop;
+use std::io::Read;
+use std::marker::Model;
+
+/// A source over a reader of std. It can't tell what is left. Contracts see it as its count of errors.
+#[derive(Drop)]
+pub struct StdSource<R> {
+    reader: R,
+    faults: u64,
+}
+
+impl<R> Model for StdSource<R> {
+    ghost use Rattle.std.specs.Prelude.{ℕ};
+
+    ghost Value = { ℕ };
+
+    ghost view = { λ s. s.faults };
+}
+
+impl<R> StdSource<R> {
+    /// The reader, with no fault yet.
+    pub fn new(reader: R) -> StdSource<R>
+        ensures { result ≡ 0 }
+    {
+        StdSource { reader, faults: 0 }
+    }
+}
+
+impl<R: Read> Source for StdSource<R> {
+    ghost left = { λ _. None };
+
+    ghost faults = { λ s. s };
+
+    ghost never_fails = { λ _. false };
+
+    /// One read of the reader. Each of its errors is a fault, an interruption too.
+    fn read(&mut self, into: &mut [u8]) -> Result<usize, Stop> {
+        match self.reader.read(into) {
+            Ok(count) => Ok(count),
+            Err(_) => {
+                self.faults = self.faults.saturating_add(1);
+                Err(Stop::Failed)
+            }
+        }
+    }
+}
