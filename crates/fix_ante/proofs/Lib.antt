@@ -3,3 +3,4 @@ pub mod Entries
 pub mod LayoutLemmas
 pub mod PositionLemmas
 pub mod Successors
+pub mod MoveLemmas

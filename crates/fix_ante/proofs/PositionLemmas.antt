@@ -16,10 +16,10 @@ use Rattle.fix_ante.proofs.Entries.{index_of_only, index_of_none}
 use Rattle.fix_ante.proofs.LayoutLemmas.{length-layout_of, slice_get-rounds_from}
 
 -- who has a place that the first row's quota reaches, and one past it
-owner_among_here : (s : Spot) (ss : List Spot) (round at : ℕ) → at < s.quota → owner_among (s ∷ ss) round at ≡ Some (record { shard = s.shard; local = s.start + round * s.quota + at })
+pub owner_among_here : (s : Spot) (ss : List Spot) (round at : ℕ) → at < s.quota → owner_among (s ∷ ss) round at ≡ Some (record { shard = s.shard; local = s.start + round * s.quota + at })
 owner_among_here s ss round at here = cond-true _ _ _ (lt-ltb at s.quota here)
 
-owner_among_past : (s : Spot) (ss : List Spot) (round at : ℕ) → s.quota ≤ at → owner_among (s ∷ ss) round at ≡ owner_among ss round (at - s.quota)
+pub owner_among_past : (s : Spot) (ss : List Spot) (round at : ℕ) → s.quota ≤ at → owner_among (s ∷ ss) round at ≡ owner_among ss round (at - s.quota)
 owner_among_past s ss round at past = cond-false _ _ _ (le-ltb at s.quota past)
 
 -- a round's owner is of one of the rows
@@ -249,3 +249,25 @@ place_of_found w p (Some o) is e = (place_of-owner w p o is e).2
 -- the owner of each position that has one has that place
 pub place_of-owner_of : (w : Window) (p : ℕ) → IsWindow w → IfSome (owner_of w p) (λ o. place_of w o.shard o.local ≡ Some p)
 place_of-owner_of w p is = place_of_found w p _ is refl
+
+-- who has a place in a round of the window
+pub owner_of-round : (w : Window) (round at : ℕ) → round < w.rounds → at < width_of w → owner_of w (w.base + round * width_of w + at) ≡ owner_among w.spots round at
+owner_of-round w round at h k =
+    let index : w.base + round * width_of w + at ≡ w.base + (round * width_of w + at) = omega arith in
+    let from : 0 + round ≡ round = omega arith in
+    ap (owner_of w) index
+    ∙ owner_of_at w (round * width_of w + at)
+    ∙ slice_get-rounds_from w.spots 0 w.rounds round at h k
+    ∙ ap (λ n. owner_among w.spots n at) from
+
+-- an owner in a window is of one of its rows
+pub owner_of-has_shard : (w : Window) (p : ℕ) (o : Owner) → owner_of w p ≡ Some o → has_shard o.shard (rows_of w.spots) ≡ true
+owner_of-has_shard w p o e =
+    elim (cases_lt p w.base) [
+      | inl before ↦ let none : None ≡ Some o = sym (cond-true _ _ _ (lt-ltb p w.base before)) ∙ e in absurd (cc)
+      | inr from ↦
+          let split : w.base + (p - w.base) ≡ p = omega arith in
+          let entry : slice_get (layout_of w) (p - w.base) ≡ Some o = sym (owner_of_at w (p - w.base)) ∙ (ap (owner_of w) split ∙ e) in
+          let within : p - w.base < w.rounds * width_of w = omega (arith, length-layout_of w, slice_get_within (layout_of w) (p - w.base) o entry) in
+          owner_among-has_shard w.spots ((p - w.base) / width_of w) ((p - w.base) % width_of w) o (sym (slice_get-layout_of w (p - w.base) within) ∙ entry)
+    ]

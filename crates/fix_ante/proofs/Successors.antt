@@ -84,10 +84,10 @@ IsWindow-next_of w number rounds rows is end some most table = record {
 moved_on : ℕ → Spot → Spot
 moved_on covered s = record { shard = s.shard; quota = s.quota; start = s.start + covered * s.quota }
 
-spots_without_here : (s : Spot) (ss : List Spot) (covered shard : ℕ) → (s.shard == shard) ≡ true → spots_without (s ∷ ss) covered shard ≡ spots_without ss covered shard
+pub spots_without_here : (s : Spot) (ss : List Spot) (covered shard : ℕ) → (s.shard == shard) ≡ true → spots_without (s ∷ ss) covered shard ≡ spots_without ss covered shard
 spots_without_here s ss covered shard same = cond-true _ _ _ same
 
-spots_without_other : (s : Spot) (ss : List Spot) (covered shard : ℕ) → (s.shard == shard) ≡ false → spots_without (s ∷ ss) covered shard ≡ record { shard = s.shard; quota = s.quota; start = s.start + covered * s.quota } ∷ spots_without ss covered shard
+pub spots_without_other : (s : Spot) (ss : List Spot) (covered shard : ℕ) → (s.shard == shard) ≡ false → spots_without (s ∷ ss) covered shard ≡ record { shard = s.shard; quota = s.quota; start = s.start + covered * s.quota } ∷ spots_without ss covered shard
 spots_without_other s ss covered shard other = cond-false _ _ _ other
 
 -- what holds of the rows holds of those that remain

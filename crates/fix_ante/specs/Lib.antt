@@ -1,3 +1,4 @@
 pub mod Windows
 pub mod Layout
 pub mod Positions
+pub mod Moves

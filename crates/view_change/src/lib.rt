@@ -9,4 +9,4 @@ mod moved;
 mod removals;
 
 pub use moved::Moved;
-pub use removals::surviving;
+pub use removals::{first_failed, remap, surviving};

@@ -1,0 +1,27 @@
+use Rattle.std.specs.Prelude.{ℕ, ◌+◌, ◌*◌, ◌<◌, ◌≡◌, ◌≢◌, ◌==◌, nat_lt, if◌then◌else◌, List, [], ◌∷◌, Option}
+use Rattle.fix_ante.specs.declared.spots.Spot.{Spot}
+use Rattle.fix_ante.specs.declared.spots.Owner.{Owner}
+use Rattle.fix_ante.specs.Windows.{Window, width_of, without_of}
+use Rattle.fix_ante.specs.Layout.{owner_of}
+
+-- who has a position once a window is followed by another: below the other's base the owners stay
+abbrev pub owner_after : Window → Window → ℕ → Option Owner
+owner_after before after position = if nat_lt position after.base then owner_of before position else owner_of after position
+
+-- the least position to which two maps give different owners
+pub record IsFirstMoved (before after : ℕ → Option Owner) (position : ℕ) : Type 0 where
+  pub stays : (p : ℕ) → p < position → before p ≡ after p
+  pub moves : before position ≢ after position
+
+-- the least position that the removal of a shard moves, where this many rounds are covered
+abbrev pub IsFirstFailed : Window → ℕ → ℕ → ℕ → Type 0
+IsFirstFailed w covered shard = IsFirstMoved (owner_of w) (owner_after w (without_of w 0 covered shard))
+
+-- the sum of the quotas of the rows before the shard's
+abbrev pub quotas_before : List Spot → ℕ → ℕ
+quotas_before [] shard = 0
+quotas_before (s ∷ ss) shard = if s.shard == shard then 0 else s.quota + quotas_before ss shard
+
+-- where the shard's first local after the covered rounds stands
+abbrev pub first_failed_of : Window → ℕ → ℕ → ℕ
+first_failed_of w covered shard = w.base + covered * width_of w + quotas_before w.spots shard
