@@ -1,3 +1,5 @@
 pub mod Fields
 pub mod Records
 pub mod Entries
+pub mod Reading
+pub mod Decoding

@@ -1,4 +1,4 @@
-ghost use Rattle.std.specs.Prelude.{◌≡◌, ◌<◌, ◌≤◌, ◌↔◌, length, IfOk, IsErrOf};
+ghost use Rattle.std.specs.Prelude.{◌≡◌, ◌<◌, ◌≤◌, ◌↔◌, ◌⊎◌, length, IfErr, IfOk, IsErrOf};
 ghost use Rattle.record_codec.specs.declared.body.TheConstants.{MOST_BODY};
 
 use crate::errors::BodyError;
@@ -55,10 +55,19 @@ impl Body {
         ensures body { IfOk result (λ body. body ≡ bytes.now) }
         ensures fits { IfOk result (λ _. length bytes.now ≤ MOST_BODY) }
         ensures too_long { IsErrOf result (BodyError.TooLong (length bytes.now)) ↔ (MOST_BODY < length bytes.now) }
+        ensures no_other { IfErr result (λ e. (e ≡ BodyError.TooLong (length bytes.now)) ⊎ (e ≡ BodyError.OutOfMemory)) }
     {
         if bytes.len() > MOST_BODY {
             return Err(BodyError::TooLong { len: bytes.len() });
         }
+        Ok(Body::of(alloc, bytes)?)
+    }
+
+    /// The body of at most 1,024 bytes.
+    pub(crate) fn of(alloc: Global, bytes: &[u8]) -> Result<Body, OutOfMemory>
+        requires { length bytes.now ≤ 1024 }
+        ensures { IfOk result (λ body. body ≡ bytes.now) }
+    {
         Ok(Body {
             bytes: Bytes::from_slice(alloc, bytes)?,
         })

@@ -7,12 +7,19 @@
 
 mod app_kind;
 mod body;
+mod codec;
 mod errors;
+pub mod fields;
+pub mod laws;
 mod record;
 mod text;
 
 pub use app_kind::AppKind;
 pub use body::{Body, MOST_BODY};
-pub use errors::BodyError;
+pub use codec::{MOST_NUMBER, decode, encode, put_record};
+pub use errors::{BodyError, DecodeError};
 pub use record::{Log, Record};
 pub use text::{MOST_OUTPUT, MOST_SHOWN, Output, ShortText, Shown};
+
+#[cfg(test)]
+mod tests;
