@@ -1,11 +1,11 @@
-use Rattle.std.specs.Prelude.{ℕ, ◌+◌, ◌-◌, ◌^◌, Bool, ◌==◌, ◌&&◌, ◌||◌, nat_le, List, [], ◌∷◌, map, get_or, slice_set, Option, Some, None, if◌then◌else◌, codes, decimal}
+use Rattle.std.specs.Prelude.{ℕ, ◌+◌, ◌-◌, ◌^◌, ◌<◌, Bool, ◌==◌, ◌&&◌, ◌||◌, nat_le, List, [], ◌∷◌, get_or, slice_set, Option, Some, None, if◌then◌else◌, codes, decimal}
 use Rattle.std.specs.Int.{is_in_range}
-use Rattle.std.specs.List.{join_with_byte}
+use Rattle.std.specs.List.{join_by}
 use Rattle.std.specs.Str.{bytes_eq}
 use Rattle.record_codec.specs.declared.record.Record.{Record}
 use Rattle.record_codec.specs.declared.record.Record.TheVariants.{Data, Noop}
-use Rattle.app_law.specs.declared.bank.BankOrder.{BankOrder}
-use Rattle.app_law.specs.declared.bank.BankOrder.TheVariants.{Deposit, Move}
+use Rattle.app_law.specs.declared.bank_order.BankOrder.{BankOrder}
+use Rattle.app_law.specs.declared.bank_order.BankOrder.TheVariants.{Deposit, Move}
 use Rattle.app_law.specs.Decimals.{number_in}
 use Rattle.app_law.specs.Words.{words}
 
@@ -30,6 +30,11 @@ bank_order_of (verb ∷ a ∷ b ∷ n ∷ []) =
     if bytes_eq verb (codes "t") then move_of (account_in a) (account_in b) (number_in 12 n) else None
 bank_order_of _ = None
 
+-- accounts from 0 to 7, and an amount of at most 12 digits
+abbrev pub IsOrder : BankOrder → Type 0
+IsOrder (Deposit account amount) = (account < 8) × (amount < 10 ^ 12)
+IsOrder (Move from to amount) = (from < 8) × (to < 8) × (amount < 10 ^ 12)
+
 -- the balance of an account
 abbrev pub balance : List ℕ → ℕ → ℕ
 balance balances account = get_or balances account 0
@@ -37,6 +42,9 @@ balance balances account = get_or balances account 0
 -- the account can take the amount in
 abbrev pub takes : List ℕ → ℕ → ℕ → Bool
 takes balances account amount = nat_le (balance balances account + amount) (10 ^ 15)
+
+abbrev pub with_deposit : List ℕ → ℕ → ℕ → List ℕ
+with_deposit balances account amount = slice_set balances account (balance balances account + amount)
 
 -- no balance would be passed or fall short
 abbrev pub is_done : List ℕ → BankOrder → Bool
@@ -46,10 +54,10 @@ is_done balances (Move from to amount) =
 
 -- the balances once an order is done; a move of an account to itself changes nothing
 abbrev pub when_done : List ℕ → BankOrder → List ℕ
-when_done balances (Deposit account amount) = slice_set balances account (balance balances account + amount)
+when_done balances (Deposit account amount) = with_deposit balances account amount
 when_done balances (Move from to amount) =
     if from == to then balances
-    else slice_set (slice_set balances from (balance balances from - amount)) to (balance balances to + amount)
+    else slice_set (with_deposit balances to amount) from (balance balances from - amount)
 
 -- the balances after a body that may ask for something
 abbrev pub bank_after : List ℕ → Option BankOrder → List ℕ
@@ -70,4 +78,4 @@ bank_output balances Noop = []
 
 -- the eight balances, one space between
 abbrev pub bank_shown : List ℕ → List ℕ
-bank_shown balances = join_with_byte 32 (map decimal balances)
+bank_shown balances = join_by decimal (codes " ") balances

@@ -19,3 +19,8 @@ is_printable most text = nat_le 1 (length text) && (nat_le (length text) most &&
 -- such a text; none for any other
 abbrev pub printable_in : ℕ → List ℕ → Option (List ℕ)
 printable_in most text = if is_printable most text then Some text else None
+
+-- the words that follow a space, where there is one
+abbrev pub words_after : Option (List ℕ) → List (List ℕ)
+words_after (Some rest) = words rest
+words_after None = []

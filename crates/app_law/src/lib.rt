@@ -10,11 +10,13 @@
 mod any_app;
 mod app;
 mod bank;
+mod bank_order;
 mod decimal;
 mod kv;
 mod tally;
 #[cfg(test)]
 mod tests;
+mod words;
 
 pub use any_app::{AnyApp, AnyUndo};
 pub use app::App;

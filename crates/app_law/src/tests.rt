@@ -1,4 +1,4 @@
-use crate::{App, Tally};
+use crate::{App, Bank, Tally};
 use record_codec::{AppKind, Body, Record};
 use std::alloc::Global;
 use std::process::Abort;
@@ -74,4 +74,56 @@ fn tally_at_its_bounds(rt: HostRuntime) -> Result<(), Fail> {
     ];
     let shown = "sum 1000000000000000000 count 18446744073709551615";
     plays(&rt, rt.alloc(), &mut nearly_full, &rows, shown)
+}
+
+#[test]
+fn bank(rt: HostRuntime) -> Result<(), Fail> {
+    let mut fresh = Bank::fresh(AppKind::Bank);
+    assert_eq!(rt; fresh.show().as_slice(), b"0 0 0 0 0 0 0 0".as_slice());
+    let rows = [
+        ("d 1 50", "ok\n"),
+        ("t 1 2 60", "no\n"),
+        ("t 1 2 20", "ok\n"),
+    ];
+    plays(&rt, rt.alloc(), &mut fresh, &rows, "0 30 20 0 0 0 0 0")?;
+    let forms = [
+        ("", "?\n"),
+        ("d", "?\n"),
+        ("d 1", "?\n"),
+        ("d 8 1", "?\n"),
+        ("d 01 1", "?\n"),
+        ("d 1  1", "?\n"),
+        ("d 1 1 ", "?\n"),
+        (" d 1 1", "?\n"),
+        ("d 1 x", "?\n"),
+        ("d 1 1000000000000", "?\n"),
+        ("t 1 2", "?\n"),
+        ("t 1 2 3 4", "?\n"),
+        ("t 1 9 0", "?\n"),
+        ("D 1 1", "?\n"),
+        ("d 0 000000000007", "ok\n"),
+        ("t 7 0 0", "ok\n"),
+    ];
+    plays(&rt, rt.alloc(), &mut fresh, &forms, "7 0 0 0 0 0 0 0")
+}
+
+#[test]
+fn bank_at_its_bounds(rt: HostRuntime) -> Result<(), Fail> {
+    let full = 1_000_000_000_000_000;
+    let mut rich = Bank::at([full, full - 1, 5, 0, 0, 0, 0, full]);
+    let rows = [
+        ("d 0 1", "no\n"),
+        ("d 0 0", "ok\n"),
+        ("d 1 2", "no\n"),
+        ("d 1 1", "ok\n"),
+        ("t 2 0 5", "no\n"),
+        ("t 2 3 6", "no\n"),
+        ("t 2 3 5", "ok\n"),
+        ("t 3 3 5", "ok\n"),
+        ("t 3 3 6", "no\n"),
+        ("t 7 7 999999999999", "ok\n"),
+        ("t 7 2 999999999999", "ok\n"),
+    ];
+    let shown = "1000000000000000 1000000000000000 999999999999 5 0 0 0 999000000000001";
+    plays(&rt, rt.alloc(), &mut rich, &rows, shown)
 }

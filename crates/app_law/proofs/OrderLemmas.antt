@@ -1,0 +1,10 @@
+use Rattle.std.proofs.Common.{◌≡◌, ℕ, List, ◌∷◌, None, refl}
+use Rattle.app_law.specs.Banks.{bank_order_of}
+use Rattle.app_law.specs.Words.{words}
+use Rattle.app_law.proofs.WordLemmas.{words-some}
+
+-- more than four words ask nothing of the bank
+pub bank_order_of-many : (a b c d more : List ℕ) → bank_order_of (a ∷ b ∷ c ∷ d ∷ words more) ≡ None
+bank_order_of-many a b c d more = rw ((words-some more).2) refl
+
+pub ruleset too_many = bank_order_of-many
