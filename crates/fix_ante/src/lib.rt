@@ -11,4 +11,4 @@ mod window;
 
 pub use positions::{owner, place};
 pub use spots::{Owner, Spot};
-pub use window::{Window, first, next, without};
+pub use window::{MOST_BASE, MOST_ROUNDS, Window, first, next, without};

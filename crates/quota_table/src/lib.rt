@@ -11,6 +11,8 @@ mod errors;
 mod listed;
 mod rows;
 mod table;
+#[cfg(test)]
+mod tests;
 
 pub use bytes::Bytes;
 pub use entry::Entry;

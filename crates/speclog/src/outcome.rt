@@ -1,0 +1,63 @@
+ghost use Rattle.std.specs.Prelude.{◌≡◌, None, Some, [], false};
+ghost use Rattle.speclog.specs.Answers.{status_of, status_of_fault};
+
+use crate::fault::Fault;
+use crate::looks::LooksList;
+use net_model::History;
+use quota_table::Listed;
+use std::alloc::Global;
+
+/// How a command ended.
+#[derive(Drop)]
+pub struct Outcome {
+    /// The exit status: 0, or that of the fault.
+    pub status: u8,
+    /// None exactly at status 0.
+    pub fault: Option<Fault>,
+    /// The run that was played: there exactly at the statuses 0 and 5.
+    pub history: Option<History>,
+    /// What the readers of a threaded run kept; empty so far.
+    pub looks: LooksList,
+    /// Whether a threaded run ended by itself; false so far.
+    pub quiet: bool,
+}
+
+impl Outcome {
+    /// A command that ended with a fault, and nothing to show for it.
+    pub fn refused(alloc: Global, fault: Fault) -> Outcome
+        ensures status { result.status ≡ status_of_fault fault }
+        ensures fault { result.fault ≡ Some fault }
+        ensures history { result.history ≡ None }
+        ensures looks { result.looks ≡ [] }
+        ensures quiet { result.quiet ≡ false }
+    {
+        Outcome {
+            status: fault.status(),
+            fault: Some(fault),
+            history: None,
+            looks: Listed::new(alloc),
+            quiet: false,
+        }
+    }
+
+    /// A script that was played to its end. Its report may have met a fault on the way out.
+    pub fn played(alloc: Global, history: History, fault: Option<Fault>) -> Outcome
+        ensures status { result.status ≡ status_of fault }
+        ensures fault { result.fault ≡ fault }
+        ensures history { result.history ≡ Some history }
+        ensures looks { result.looks ≡ [] }
+        ensures quiet { result.quiet ≡ false }
+    {
+        let status = match &fault {
+            Some(fault) => fault.status(),
+            None => 0,
+        };
+        Outcome {
+            status,
+            fault,
+            history: Some(history),
+            looks: Listed::new(alloc),
+            quiet: false,
+        }
+    }
+}

@@ -1,0 +1,81 @@
+//! The commands over a source, a sink and a shelf.
+
+ghost use Rattle.std.specs.Prelude.{◌≡◌, ℕ, List, false, [], Some, is_some, map, string_bytes};
+ghost use Rattle.spec_base.specs.Faults.{Rose};
+ghost use Rattle.speclog.specs.Answers.{status_of, usage_of, usage_place, is_played, fault_of_read, SpeaksOfInput, SpeaksOfOutput};
+
+use crate::fault::Fault;
+use crate::input::{ReadError, read_all};
+use crate::outcome::Outcome;
+use crate::play::play_text;
+use crate::words::misplaced;
+use spec_base::{Shelf, Sink, Source};
+use std::alloc::Global;
+use std::sync::Wait;
+use std::thread::Threads;
+
+/// Runs the command that the words name: so far `play` alone, which reads a script, plays it and writes its report.
+///
+/// The answers come in the order of [`Fault`]'s statuses 2, 4, 3 and then 5; want of memory may come at any point.
+/// The shelf is left as it was. With a status other than 0 and 5 nothing is written, but that with 6 a part of the
+/// report may be out.
+pub fn top<R: AllocGlobal + Threads + Wait + Sync, S: Source, K: Sink, H: Shelf>(
+    rt: &R,
+    words: &[String],
+    source: &mut S,
+    sink: &mut K,
+    shelf: &mut H,
+) -> Outcome
+    requires { (name : List ℕ) → H.is_out shelf.old name ≡ false }
+    ensures status { result.status ≡ status_of result.fault }
+    ensures history { is_some result.history ≡ is_played result.fault }
+    ensures looks { result.looks ≡ [] }
+    ensures quiet { result.quiet ≡ false }
+
+    ensures usage { usage_of result.fault ≡ usage_place (map string_bytes words.now) }
+    ensures read_fault { result.fault ≡ Some Fault.ReadFault → Rose (S.faults source.old) (S.faults source.new) }
+    ensures input { SpeaksOfInput (S.left source.old) (S.left source.new) result.fault }
+    ensures write_fault { result.fault ≡ Some Fault.WriteFault → Rose (K.faults sink.old) (K.faults sink.new) }
+    ensures output { SpeaksOfOutput (K.taken sink.old) (K.taken sink.new) result.fault }
+    ensures shelf { shelf.new ≡ shelf.old }
+{
+    top_play(rt.alloc(), words, source, sink)
+}
+
+/// `play`: reads a script, plays it, and writes its report. It returns.
+pub fn top_play<S: Source, K: Sink>(
+    alloc: Global,
+    words: &[String],
+    source: &mut S,
+    sink: &mut K,
+) -> Outcome
+    ensures status { result.status ≡ status_of result.fault }
+    ensures history { is_some result.history ≡ is_played result.fault }
+    ensures looks { result.looks ≡ [] }
+    ensures quiet { result.quiet ≡ false }
+
+    ensures usage { usage_of result.fault ≡ usage_place (map string_bytes words.now) }
+    ensures read_fault { result.fault ≡ Some Fault.ReadFault → Rose (S.faults source.old) (S.faults source.new) }
+    ensures input { SpeaksOfInput (S.left source.old) (S.left source.new) result.fault }
+    ensures write_fault { result.fault ≡ Some Fault.WriteFault → Rose (K.faults sink.old) (K.faults sink.new) }
+    ensures output { SpeaksOfOutput (K.taken sink.old) (K.taken sink.new) result.fault }
+{
+    if let Some(word) = misplaced(words) {
+        return Outcome::refused(alloc, Fault::Usage { word });
+    }
+    match read_all(alloc, source) {
+        Ok(text) => play_text(alloc, text.as_slice(), sink),
+        Err(error) => Outcome::refused(alloc, read_fault(error)),
+    }
+}
+
+/// The fault that ends a command whose input was not read to its end.
+fn read_fault(error: ReadError) -> Fault
+    ensures { result ≡ fault_of_read error }
+{
+    match error {
+        ReadError::Failed => Fault::ReadFault,
+        ReadError::TooLong => Fault::InputTooLong,
+        ReadError::OutOfMemory => Fault::OutOfMemory,
+    }
+}
