@@ -4,3 +4,4 @@ pub mod LayoutLemmas
 pub mod PositionLemmas
 pub mod Successors
 pub mod MoveLemmas
+pub mod LocalLemmas

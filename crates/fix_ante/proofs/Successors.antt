@@ -19,10 +19,10 @@ has_row-rows_of shard (s ∷ ss) = ap (λ t. (s.shard == shard) || t) (has_row-r
 
 -- ---- where shards go on
 
-start_after_here : (s : Spot) (ss : List Spot) (rounds shard : ℕ) → (s.shard == shard) ≡ true → start_after (s ∷ ss) rounds shard ≡ s.start + rounds * s.quota
+pub start_after_here : (s : Spot) (ss : List Spot) (rounds shard : ℕ) → (s.shard == shard) ≡ true → start_after (s ∷ ss) rounds shard ≡ s.start + rounds * s.quota
 start_after_here s ss rounds shard same = cond-true _ _ _ same
 
-start_after_later : (s : Spot) (ss : List Spot) (rounds shard : ℕ) → (s.shard == shard) ≡ false → start_after (s ∷ ss) rounds shard ≡ start_after ss rounds shard
+pub start_after_later : (s : Spot) (ss : List Spot) (rounds shard : ℕ) → (s.shard == shard) ≡ false → start_after (s ∷ ss) rounds shard ≡ start_after ss rounds shard
 start_after_later s ss rounds shard other = cond-false _ _ _ other
 
 -- no start after some rounds is past the position after them

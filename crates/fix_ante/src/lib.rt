@@ -7,6 +7,8 @@
 
 mod positions;
 mod spots;
+#[cfg(test)]
+mod tests;
 mod window;
 
 pub use positions::{owner, place};

@@ -5,6 +5,8 @@
 #![tactic(auto)]
 
 mod lags;
+#[cfg(test)]
+mod tests;
 mod wanted;
 
 pub use lags::{lagging, uncovered};

@@ -7,6 +7,8 @@
 
 mod moved;
 mod removals;
+#[cfg(test)]
+mod tests;
 
 pub use moved::Moved;
 pub use removals::{first_failed, remap, surviving};
