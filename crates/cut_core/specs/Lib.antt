@@ -1,0 +1,5 @@
+pub mod Agreements
+pub mod Reasons
+pub mod Fold
+pub mod Effects
+pub mod Map
