@@ -1,4 +1,5 @@
 pub mod Lists
+pub mod Numbers
 pub mod Majorities
 pub mod Members
 pub mod Reports
@@ -8,3 +9,9 @@ pub mod Growth
 pub mod Safety
 pub mod Entries
 pub mod Casts
+pub mod Heard
+pub mod Steps
+pub mod Starts
+pub mod Promises
+pub mod Schedules
+pub mod Decided

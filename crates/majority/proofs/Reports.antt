@@ -3,14 +3,10 @@ use Rattle.std.proofs.Common.{◌≡◌, ℕ, zero, suc, ◌+◌, ◌<◌, ◌�
 use Rattle.std.proofs.lemmas.Bool.Decides.{nat_tests}
 use Rattle.std.proofs.lemmas.Bool.{cases_lt}
 use Rattle.std.proofs.lemmas.List.Elements.{All-head, All-tail}
+use Rattle.std.proofs.lemmas.Option.{slice_get_past}
 use Rattle.majority.specs.Proposers.{greater_report}
 use Rattle.majority.specs.Journals.{greatest_at, value_told}
 use Rattle.majority.specs.declared.journal.VoteJournal.{VoteJournal}
-
-slice_get-past : {X : Type 0} (xs : List X) (slot : ℕ) → length xs ≤ slot → slice_get xs slot ≡ None
-slice_get-past [] slot h = refl
-slice_get-past (x ∷ xs) zero h = absurd (omega arith)
-slice_get-past (x ∷ xs) (suc slot) h = slice_get-past xs slot (omega arith)
 
 module _ {V : Type 0} where
   pub greater_report-none : (report : Option (ℕ × V)) → greater_report report None ≡ report
@@ -26,7 +22,7 @@ module _ {V : Type 0} where
   pub greatest_at-past : (slot : ℕ) (journals : List (VoteJournal V)) → All (λ (journal : VoteJournal V). length journal.votes ≤ slot) journals → greatest_at slot journals ≡ None
   greatest_at-past slot [] h = refl
   greatest_at-past slot (journal ∷ journals) h =
-      let here : slice_get journal.votes slot ≡ None = slice_get-past journal.votes slot (All-head (λ (j : VoteJournal V). length j.votes ≤ slot) journal journals h) in
+      let here : slice_get journal.votes slot ≡ None = slice_get_past journal.votes slot (All-head (λ (j : VoteJournal V). length j.votes ≤ slot) journal journals h) in
       let rest = greatest_at-past slot journals (All-tail (λ (j : VoteJournal V). length j.votes ≤ slot) journal journals h) in
       rw (here, rest) refl
 

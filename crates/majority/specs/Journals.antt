@@ -1,5 +1,6 @@
 use Rattle.std.specs.Prelude.{◌≡◌, ℕ, ◌+◌, ◌*◌, ◌/◌, ◌<◌, ◌≤◌, List, [], ◌∷◌, length, All, map, nat_eq, slice_get, option_map, Option, Some, None}
 use Rattle.std.specs.List.{IsDistinct}
+use Rattle.majority.specs.Acceptors.{AcceptorState}
 use Rattle.majority.specs.Proposers.{greater_report}
 use Rattle.majority.specs.declared.journal.VoteJournal.{VoteJournal}
 use Rattle.majority.specs.declared.errors.RecoverError.{RecoverError}
@@ -33,3 +34,7 @@ pub record AreOfReplicas {V : Type 0} (n : ℕ) (journals : List (VoteJournal V)
 abbrev pub IsRecoverError : ℕ → ℕ → RecoverError → Type 0
 IsRecoverError n count (recovering.NoMajority have need) = (have ≡ count) × (need ≡ n / 2 + 1) × (2 * count ≤ n)
 IsRecoverError n count recovering.OutOfMemory = n < 2 * count
+
+-- for the slot each journal has what its replica's acceptor holds
+abbrev pub HoldAcceptances : {V : Type 0} → (ℕ → AcceptorState V) → ℕ → List (VoteJournal V) → Type 0
+HoldAcceptances held slot journals = All (λ journal. vote_found (slice_get journal.votes slot) ≡ (held journal.replica).accepted) journals

@@ -1,0 +1,209 @@
+-- A promise or an acceptance that comes to an attempt keeps the invariant of one slot.
+use Rattle.std.proofs.Common.{◌≡◌, ℕ, zero, suc, ◌+◌, ◌*◌, ◌%◌, ◌<◌, ◌≤◌, ◌==◌, Bool, true, false, List, [], ◌∷◌, length, nat_lt, nat_eq, Option, Some, None, is_some, All, Contains, ◌⊎◌, inl, inr, refl, sym, ap, ◌∙◌, subst, arith, if◌then◌else◌}
+use Rattle.std.specs.List.{IsDistinct}
+use Rattle.std.proofs.lemmas.Bool.Decides.{leb_tells, eqb_tells, nat_tests}
+use Rattle.majority.specs.Ballots.{greater_promise, with_replica, is_majority, IsMajority}
+use Rattle.majority.specs.Acceptors.{AcceptorState, with_vote}
+use Rattle.majority.specs.Proposers.{Attempt, greater_report, value_of_report, value_to_send, with_heard, with_sending, with_acceptance, promise_answer, promise_answer_unless, promise_answer_heard, attempt_after_accepted}
+use Rattle.majority.specs.Votes.{Vote, HasVote}
+use Rattle.majority.specs.Slot.{Message, Prepare, Promise, Accept, Accepted, SlotState, with_entry, promise_answered, promise_comes, accepted_comes}
+use Rattle.majority.specs.declared.answers.PromiseAnswer.{PromiseAnswer}
+use Rattle.majority.specs.declared.answers.PromiseAnswer.TheVariants as promise
+use Rattle.majority.proofs.Lists.{Contains-here, IsDistinct-nil, IsDistinct-cons}
+use Rattle.majority.proofs.Members.{IsDistinct-with_replica, All-with_replica, Contains-with_replica}
+use Rattle.majority.proofs.Entries.{with_entry-cases}
+use Rattle.majority.proofs.Agreement.{Reaches, bars_of, HasNoVote, OwnersVoted, PromisesTell, AttemptStands, AttemptsAreUnvoted, AttemptsHavePromises, AttemptsAreVoted, IsAttempt, IsAttemptIfAny, IsAgreed, IsSound, IsSafeAt}
+use Rattle.majority.proofs.Chosen.{OneValuePerBallot}
+use Rattle.majority.proofs.Safety.{HasTold, IsSafeAt-from_reports}
+use Rattle.majority.proofs.Casts.{IsAgreed-vote}
+use Rattle.majority.proofs.Heard.{Covers-first, Covers-second, Covers_refl, IsOfVote-greater, IsOfVote-reported, IsOfVote-own, Tells-own, AttemptsHavePromises-heard}
+use Rattle.majority.proofs.Steps.{not_passed, with_entry-kept, Reaches-here, IsSound-same}
+use Rattle.majority.proofs.Starts.{IsSound-attempt, others_kept, All-alone, Contains-alone}
+
+-- a list that passes the test for a majority of n
+pub most_from_test : (n count : ℕ) (replicas : List ℕ) → count ≡ n → is_majority count replicas ≡ true → n < 2 * length replicas
+most_from_test n count replicas same test =
+    elim (leb_tells (suc count) (2 * length replicas)) [
+      | inl more ↦ omega (arith, more.1)
+      | inr less ↦ let fails = less.0 in absurd (cc)
+    ]
+
+module _ {V : Type 0} where
+  -- What an answer says of the attempt that gave it.
+
+  unsent : (sending : Option V) (rest answer : PromiseAnswer V) → (answer ≡ promise.Late → ⊥) → (if is_some sending then promise.Late else rest) ≡ answer → (sending ≡ None) × (rest ≡ answer)
+  unsent None rest answer other e = (refl, e)
+  unsent (Some value) rest answer other e = absurd (other (sym e))
+
+  free : (o : Option ℕ) (own : AcceptorState V) (heard : Attempt V) (value : V) → promise_answer_unless o own heard ≡ promise.Send value → (o ≡ None) × (promise_answer_heard own heard ≡ promise.Send value)
+  free None own heard value e = (refl, e)
+  free (Some promised) own heard value e = absurd (cc)
+
+  enough : (test : Bool) (x value : V) (have : ℕ) → (let r : PromiseAnswer V = if test then promise.Send x else promise.Waiting have in r) ≡ promise.Send value → (test ≡ true) × (x ≡ value)
+  enough true x value have e = (refl, cc)
+  enough false x value have e = absurd (cc)
+
+  module _ (n i : ℕ) (slot : SlotState V) (within : i < n) (sound : IsSound n slot) (from : ℕ) (report : Option (ℕ × V)) (a : Attempt V)
+      (member : Contains slot.sent (Promise from a.ballot report)) (attempt : IsAttempt n slot.votes (bars_of slot.acceptors i) slot.sent i a) where
+
+    told : PromisesTell n slot.votes (bars_of slot.acceptors) from a.ballot report
+    told = sound.agreed.messages (Promise from a.ballot report) member
+
+    -- while nothing is being sent, the attempt stands with the promise heard
+    stands : a.sending ≡ None → AttemptsAreUnvoted slot.votes a.ballot × AttemptsHavePromises slot.sent (with_heard from report a)
+    stands e =
+        let before : AttemptsAreUnvoted slot.votes a.ballot × AttemptsHavePromises slot.sent a = subst (λ s. AttemptStands slot.votes slot.sent n a s) e attempt.stands in
+        (before.0, AttemptsHavePromises-heard slot.sent from report a member before.1)
+
+    promises_within : All (λ k. k < n) (with_replica from a.promises)
+    promises_within = All-with_replica (λ k. k < n) from a.promises attempt.within told.within
+
+    promises_distinct : IsDistinct nat_eq (with_replica from a.promises)
+    promises_distinct = IsDistinct-with_replica from a.promises attempt.distinct
+
+    IsAttempt-heard : a.sending ≡ None → IsAttempt n slot.votes (bars_of slot.acceptors i) slot.sent i (with_heard from report a)
+    IsAttempt-heard e =
+        record {
+          here = attempt.here;
+          count = attempt.count;
+          owned = attempt.owned;
+          barred = attempt.barred;
+          within = promises_within;
+          distinct = promises_distinct;
+          stands = subst (λ s. AttemptStands slot.votes slot.sent n (with_heard from report a) s) (sym e) (stands e);
+        }
+
+    -- who counts as having promised has told a report that the greatest one covers
+    has_told : a.sending ≡ None → (Reaches (bars_of slot.acceptors i) (suc a.ballot) → ⊥) → (j : ℕ) → Contains (with_replica from a.promises) j →
+        HasTold slot.votes (bars_of slot.acceptors) a.ballot (greater_report (slot.acceptors i).accepted (greater_report a.reported report)) j
+    has_told e below j among =
+        elim ((stands e).1.heard j among) [
+          | inl own ↦ subst (λ k. HasTold slot.votes (bars_of slot.acceptors) a.ballot (greater_report (slot.acceptors i).accepted (greater_report a.reported report)) k) (sym (own ∙ attempt.here)) (record {
+              report = (slot.acceptors i).accepted;
+              tells = Tells-own n slot.votes i a.ballot (slot.acceptors i) (sound.agreed.acceptors i) below;
+              barred = attempt.barred;
+              covered = Covers-first (slot.acceptors i).accepted (greater_report a.reported report) (slot.acceptors i).accepted (Covers_refl (slot.acceptors i).accepted);
+            })
+          | inr other ↦
+            let tale : PromisesTell n slot.votes (bars_of slot.acceptors) j a.ballot other.0 = sound.agreed.messages (Promise j a.ballot other.0) other.1 in
+            record {
+              report = other.0;
+              tells = tale.tells;
+              barred = tale.barred;
+              covered = Covers-second (slot.acceptors i).accepted (greater_report a.reported report) other.0 other.2;
+            }
+        ]
+
+    -- the value to send is safe
+    safe : a.sending ≡ None → (Reaches (bars_of slot.acceptors i) (suc a.ballot) → ⊥) → is_majority a.n (with_replica from a.promises) ≡ true →
+        IsSafeAt n slot.votes (bars_of slot.acceptors) a.ballot (value_to_send (slot.acceptors i) (with_heard from report a))
+    safe e below majority =
+        let most = most_from_test n a.n (with_replica from a.promises) attempt.count majority in
+        IsSafeAt-from_reports n slot.votes (bars_of slot.acceptors) sound.agreed.one_vote sound.agreed.owners sound.agreed.safe a.ballot (with_replica from a.promises)
+          (greater_report (slot.acceptors i).accepted (greater_report a.reported report)) a.wish
+          (record { within = promises_within; distinct = promises_distinct; most = most })
+          (IsOfVote-greater slot.votes (slot.acceptors i).accepted (greater_report a.reported report)
+            (IsOfVote-own n slot.votes i (slot.acceptors i) (sound.agreed.acceptors i))
+            (IsOfVote-reported n slot.votes (bars_of slot.acceptors) slot.sent a.ballot (greater_report a.reported report) (λ k t sent. sound.agreed.messages (Promise k a.ballot t) sent) (stands e).1.reported))
+          (has_told e below)
+
+    -- the attempt sends a value that is safe at its ballot
+    IsSound-send : (value : V) → a.sending ≡ None → (Reaches (bars_of slot.acceptors i) (suc a.ballot) → ⊥) → IsSafeAt n slot.votes (bars_of slot.acceptors) a.ballot value →
+        IsSound n (promise_answered (promise.Send value) i from report a slot)
+    IsSound-send value e below is_safe =
+        let b = a.ballot in
+        let message : Message V = Accept b value in
+        let votes' : List (Vote V) = record { replica = i; ballot = b; value = value } ∷ slot.votes in
+        let here : HasVote votes' i b value = Contains-here (record { replica = i; ballot = b; value = value }) slot.votes in
+        let held' = with_entry i (with_vote b value (slot.acceptors i)) slot.acceptors in
+        record {
+          agreed = IsAgreed-vote n slot.acceptors slot.votes slot.sent i b value message below within sound.agreed (inr (attempt.owned, (stands e).0.unvoted)) is_safe
+            (subst (λ k. HasVote votes' k b value) (sym attempt.owned) here);
+          attempts = with_entry-cases (λ (j : ℕ) (t : Option (Attempt V)). IsAttemptIfAny n votes' (bars_of held' j) (message ∷ slot.sent) j t) i _ slot.attempts
+            (record {
+              here = attempt.here;
+              count = attempt.count;
+              owned = attempt.owned;
+              barred = Reaches-here i b (with_vote b value (slot.acceptors i)) slot.acceptors (omega arith);
+              within = promises_within;
+              distinct = promises_distinct;
+              stands = record {
+                own = subst (λ k. HasVote votes' k b value) (sym attempt.here) here;
+                within = All-alone (λ k. k < n) a.replica (subst (λ k. k < n) (sym attempt.here) within);
+                distinct = IsDistinct-cons a.replica [] tt IsDistinct-nil;
+                voted = λ j alone. subst (λ k. HasVote votes' k b value) (sym attempt.here ∙ Contains-alone a.replica j alone) here;
+              };
+            })
+            (others_kept n i b value slot message below attempt.owned sound);
+        }
+
+    IsSound-answered : slot.attempts i ≡ Some a → (answer : PromiseAnswer V) → promise_answer from report (slot.acceptors i) a ≡ answer → IsSound n (promise_answered answer i from report a slot)
+    IsSound-answered stood promise.Late e =
+        IsSound-same n slot (with_entry i (slot.acceptors i) slot.acceptors) (with_entry i (Some a) slot.attempts) (with_entry-kept i (slot.acceptors i) slot.acceptors refl) (with_entry-kept i (Some a) slot.attempts stood) sound
+    IsSound-answered stood (promise.Lower promised) e =
+        IsSound-same n slot (with_entry i (slot.acceptors i) slot.acceptors) (with_entry i (Some a) slot.attempts) (with_entry-kept i (slot.acceptors i) slot.acceptors refl) (with_entry-kept i (Some a) slot.attempts stood) sound
+    IsSound-answered stood (promise.Waiting have) e =
+        let quiet = unsent a.sending _ (promise.Waiting have) (λ clash. cc) e in
+        let heard = IsSound-attempt n i slot (Some (with_heard from report a)) sound (IsAttempt-heard quiet.0) in
+        IsSound-same n (record slot { attempts = with_entry i (Some (with_heard from report a)) slot.attempts }) (with_entry i (slot.acceptors i) slot.acceptors) (with_entry i (Some (with_heard from report a)) slot.attempts) (with_entry-kept i (slot.acceptors i) slot.acceptors refl) refl heard
+    IsSound-answered stood (promise.Send value) e =
+        let quiet = unsent a.sending _ (promise.Send value) (λ clash. cc) e in
+        let open_to = free (greater_promise (slot.acceptors i).promised a.ballot) (slot.acceptors i) (with_heard from report a) value quiet.1 in
+        let majority = enough (is_majority a.n (with_replica from a.promises)) (value_to_send (slot.acceptors i) (with_heard from report a)) value _ open_to.1 in
+        let below = not_passed (slot.acceptors i).promised a.ballot open_to.0 in
+        IsSound-send value quiet.0 below (subst (IsSafeAt n slot.votes (bars_of slot.acceptors) a.ballot) majority.1 (safe quiet.0 below majority.0))
+
+  pub IsSound-promise : (n i from ballot : ℕ) (report : Option (ℕ × V)) (slot : SlotState V) → i < n → Contains slot.sent (Promise from ballot report) → IsSound n slot →
+      (stood : Option (Attempt V)) → slot.attempts i ≡ stood → IsSound n (promise_comes i from ballot report stood slot)
+  IsSound-promise n i from ballot report slot within member sound None e = sound
+  IsSound-promise n i from ballot report slot within member sound (Some a) e =
+      elim (eqb_tells a.ballot ballot) [
+        | inl same ↦
+          let here : Contains slot.sent (Promise from a.ballot report) = subst (λ b. Contains slot.sent (Promise from b report)) (sym same.1) member in
+          let attempt : IsAttempt n slot.votes (bars_of slot.acceptors i) slot.sent i a = subst (λ t. IsAttemptIfAny n slot.votes (bars_of slot.acceptors i) slot.sent i t) e (sound.attempts i) in
+          rw same.0 (IsSound-answered n i slot within sound from report a here attempt e (promise_answer from report (slot.acceptors i) a) refl)
+        | inr other ↦ rw other.0 sound
+      ]
+
+  -- an acceptance is counted
+  IsAttempt-acceptance : (n i from : ℕ) (a : Attempt V) (value : V) (slot : SlotState V) → IsSound n slot → Contains slot.sent (Accepted from a.ballot) →
+      IsAttempt n slot.votes (bars_of slot.acceptors i) slot.sent i a → a.sending ≡ Some value → IsAttempt n slot.votes (bars_of slot.acceptors i) slot.sent i (with_acceptance from a)
+  IsAttempt-acceptance n i from a value slot sound member attempt e =
+      let before : AttemptsAreVoted slot.votes n a value = subst (λ s. AttemptStands slot.votes slot.sent n a s) e attempt.stands in
+      let accepted = sound.agreed.messages (Accepted from a.ballot) member in
+      let same : accepted.0 ≡ value = OneValuePerBallot n slot.votes sound.agreed.one_vote sound.agreed.owners from a.replica a.ballot accepted.0 value accepted.1 before.own in
+      let vote : HasVote slot.votes from a.ballot value = subst (λ v. HasVote slot.votes from a.ballot v) same accepted.1 in
+      let after : AttemptsAreVoted slot.votes n (with_acceptance from a) value = record {
+        own = before.own;
+        within = All-with_replica (λ k. k < n) from a.acceptances before.within ((sound.agreed.acceptors from).within a.ballot value vote);
+        distinct = IsDistinct-with_replica from a.acceptances before.distinct;
+        voted = λ j among. elim (Contains-with_replica from j a.acceptances among) [
+          | inl old ↦ before.voted j old
+          | inr new ↦ subst (λ k. HasVote slot.votes k a.ballot value) new vote
+        ];
+      } in
+      record {
+        here = attempt.here;
+        count = attempt.count;
+        owned = attempt.owned;
+        barred = attempt.barred;
+        within = attempt.within;
+        distinct = attempt.distinct;
+        stands = subst (λ s. AttemptStands slot.votes slot.sent n (with_acceptance from a) s) (sym e) after;
+      }
+
+  pub IsSound-accepted : (n i from ballot : ℕ) (slot : SlotState V) → Contains slot.sent (Accepted from ballot) → IsSound n slot →
+      (stood : Option (Attempt V)) → slot.attempts i ≡ stood → IsSound n (accepted_comes i from ballot stood slot)
+  IsSound-accepted n i from ballot slot member sound None e = sound
+  IsSound-accepted n i from ballot slot member sound (Some a) e =
+      elim (eqb_tells a.ballot ballot) [
+        | inl same ↦ rw same.0 (by_sending (subst (λ b. Contains slot.sent (Accepted from b)) (sym same.1) member) a.sending refl)
+        | inr other ↦ rw other.0 sound
+      ]
+    where
+      attempt : IsAttempt n slot.votes (bars_of slot.acceptors i) slot.sent i a
+      attempt = subst (λ t. IsAttemptIfAny n slot.votes (bars_of slot.acceptors i) slot.sent i t) e (sound.attempts i)
+      by_sending : Contains slot.sent (Accepted from a.ballot) → (s : Option V) → a.sending ≡ s →
+          IsSound n (record slot { attempts = with_entry i (Some (if is_some s then with_acceptance from a else a)) slot.attempts })
+      by_sending here None q = IsSound-attempt n i slot (Some a) sound attempt
+      by_sending here (Some value) q = IsSound-attempt n i slot (Some (with_acceptance from a)) sound (IsAttempt-acceptance n i from a value slot sound here attempt q)
