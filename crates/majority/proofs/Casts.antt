@@ -24,8 +24,8 @@ module _ {V : Type 0} where
       (j c : ℕ) → Reaches (bars_of held j) c → Reaches (bars_of (with_entry i own held) j) c
   bars_grow held i b own promised free =
       with_entry-cases (λ (j : ℕ) (a : AcceptorState V). (c : ℕ) → Reaches (bars_of held j) c → Reaches a.promised c) i own held
-        (λ c reached. rw promised (Reaches-bound (bars_of held i) b c free reached))
-        (λ j other c reached. reached)
+      (λ c reached. rw promised (Reaches-bound (bars_of held i) b c free reached))
+      (λ j other c reached. reached)
 
   -- A replica promises a ballot that its promise does not pass.
   module _ (n : ℕ) (held : ℕ → AcceptorState V) (votes : List (Vote V)) (sent : List (Message V)) (i b : ℕ) (message : Message V) (free : Reaches (bars_of held i) (suc b) → ⊥) where
@@ -47,11 +47,11 @@ module _ {V : Type 0} where
           owners = agreed.owners;
           acceptors = with_entry-cases (λ (j : ℕ) (a : AcceptorState V). AcceptorIsItems n votes j a) i (with_promise b (held i)) held
               (let before = agreed.acceptors i in
-               record {
-                 within = before.within;
-                 barred = λ c w vote. Reaches-bound (bars_of held i) b c free (before.barred c w vote);
-                 last = before.last;
-               })
+              record {
+                within = before.within;
+                barred = λ c w vote. Reaches-bound (bars_of held i) b c free (before.barred c w vote);
+                last = before.last;
+              })
               (λ j other. agreed.acceptors j);
           messages = Contains-elim (IsTrueMessage n votes bars') message sent holds (λ m member. IsTrueMessage-kept votes votes (bars_of held) bars' sent (message ∷ sent) Grows-promise n m (agreed.messages m member));
           safe = λ j c w vote. IsSafeAt-kept votes votes (bars_of held) bars' sent (message ∷ sent) Grows-promise n c w (agreed.safe j c w vote);
@@ -113,7 +113,7 @@ module _ {V : Type 0} where
     no_later : IsAgreed n held votes sent → (j c : ℕ) (w : V) → HasVote voted j c w → j ≡ i → c ≤ b
     no_later agreed =
         HasVote-elim (λ j c w. j ≡ i → c ≤ b) i b v votes (λ same. omega arith)
-          (λ j c w vote same. Reaches-bound (bars_of held i) b c free ((agreed.acceptors i).barred c w (subst (λ k. HasVote votes k c w) same vote)))
+        (λ j c w vote same. Reaches-bound (bars_of held i) b c free ((agreed.acceptors i).barred c w (subst (λ k. HasVote votes k c w) same vote)))
 
     items_here : i < n → IsAgreed n held votes sent → AcceptorIsItems n voted i (with_vote b v (held i))
     items_here within agreed =
@@ -128,8 +128,8 @@ module _ {V : Type 0} where
       where
         first : (j c : ℕ) (w : V) → HasVote voted j c w → (x : V) → HasVote voted j c x → w ≡ x
         first = HasVote-elim (λ j c w. (x : V) → HasVote voted j c x → w ≡ x) i b v votes
-          (λ x vote. HasVote-elim (λ j c x. c ≡ b → v ≡ x) i b v votes (λ same. refl) (λ j c x old same. agrees agreed may j x (subst (λ d. HasVote votes j d x) same old)) i b x vote refl)
-          (λ j c w old x vote. HasVote-elim (λ k d x. k ≡ j → d ≡ c → w ≡ x) i b v votes
+            (λ x vote. HasVote-elim (λ j c x. c ≡ b → v ≡ x) i b v votes (λ same. refl) (λ j c x old same. agrees agreed may j x (subst (λ d. HasVote votes j d x) same old)) i b x vote refl)
+            (λ j c w old x vote. HasVote-elim (λ k d x. k ≡ j → d ≡ c → w ≡ x) i b v votes
             (λ same at. sym (agrees agreed may j w (subst (λ d. HasVote votes j d w) (sym at) old)))
             (λ k d x other same at. agreed.one_vote j c w x old (subst (λ d. HasVote votes j d x) at (subst (λ k. HasVote votes k d x) same other)))
             j c x vote refl refl)

@@ -29,18 +29,18 @@ module _ {V : Type 0} where
   ChosenIsCarried n votes bars one owners safe ballot later i v w chosen vote order =
       elim (cases_lt ballot later) [
         | inl below ↦
-          let quorum = safe i later w vote ballot below in
-          let common = MajoritiesMeet n quorum.0 chosen.0 quorum.1 chosen.1 in
-          let voted : HasVote votes common.0 ballot v = All-contains (λ replica. HasVote votes replica ballot v) chosen.0 common.0 chosen.2 common.2 in
-          elim (quorum.2 common.0 common.1) [
-            | inl same ↦ one common.0 ballot w v same voted
-            | inr other ↦ absurd (other.0 v voted)
-          ]
+            let quorum = safe i later w vote ballot below in
+            let common = MajoritiesMeet n quorum.0 chosen.0 quorum.1 chosen.1 in
+            let voted : HasVote votes common.0 ballot v = All-contains (λ replica. HasVote votes replica ballot v) chosen.0 common.0 chosen.2 common.2 in
+            elim (quorum.2 common.0 common.1) [
+              | inl same ↦ one common.0 ballot w v same voted
+              | inr other ↦ absurd (other.0 v voted)
+            ]
         | inr above ↦
-          let same : later ≡ ballot = omega arith in
-          let one_voter = voter n votes ballot v chosen in
-          let at_ballot : HasVote votes i ballot w = subst (λ b. HasVote votes i b w) same vote in
-          OneValuePerBallot n votes one owners i one_voter.0 ballot w v at_ballot one_voter.1
+            let same : later ≡ ballot = omega arith in
+            let one_voter = voter n votes ballot v chosen in
+            let at_ballot : HasVote votes i ballot w = subst (λ b. HasVote votes i b w) same vote in
+            OneValuePerBallot n votes one owners i one_voter.0 ballot w v at_ballot one_voter.1
       ]
 
   -- two chosen values are equal
@@ -50,9 +50,9 @@ module _ {V : Type 0} where
   OneChosen n votes bars one owners safe v w p q =
       elim (cases_lt p.0 q.0) [
         | inl below ↦
-          let other = voter n votes q.0 w q.1 in
-          sym (ChosenIsCarried n votes bars one owners safe p.0 q.0 other.0 v w p.1 other.1 (omega arith))
+            let other = voter n votes q.0 w q.1 in
+            sym (ChosenIsCarried n votes bars one owners safe p.0 q.0 other.0 v w p.1 other.1 (omega arith))
         | inr above ↦
-          let other = voter n votes p.0 v p.1 in
-          ChosenIsCarried n votes bars one owners safe q.0 p.0 other.0 w v q.1 other.1 above
+            let other = voter n votes p.0 v p.1 in
+            ChosenIsCarried n votes bars one owners safe q.0 p.0 other.0 w v q.1 other.1 above
       ]

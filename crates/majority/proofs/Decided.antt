@@ -1,35 +1,30 @@
--- What is chosen stays chosen, and a journal of each replica of a majority tells it.
-use Rattle.std.proofs.Common.{◌≡◌, ℕ, zero, suc, ◌+◌, ◌*◌, ◌%◌, ◌^◌, ◌<◌, ◌≤◌, ◌==◌, Bool, true, false, List, [], ◌∷◌, ◌++◌, length, map, nat_lt, nat_eq, Option, Some, None, slice_get, option_map, All, Contains, ◌⊎◌, inl, inr, refl, sym, ap, ◌∙◌, subst, arith, if◌then◌else◌}
+-- What is chosen stays chosen, and an attempt that counts a majority of acceptances has had its value chosen.
+use Rattle.std.proofs.Common.{◌≡◌, ℕ, zero, suc, ◌+◌, ◌*◌, ◌%◌, ◌^◌, ◌<◌, ◌≤◌, ◌==◌, Bool, true, false, List, [], ◌∷◌, ◌++◌, length, map, nat_lt, nat_eq, Option, Some, None, slice_get, is_some, All, Contains, ◌⊎◌, inl, inr, refl, sym, ap, ◌∙◌, subst, arith, if◌then◌else◌}
 use Rattle.std.specs.List.{IsDistinct}
 use Rattle.std.proofs.lemmas.List.Elements.{All-weaker, All-head, All-tail, All-contains, All-contains_itself, All-map}
 use Rattle.std.proofs.lemmas.List.{length-map}
 use Rattle.std.proofs.lemmas.Bool.{cases_lt}
-use Rattle.majority.specs.Ballots.{IsMajority}
+use Rattle.majority.specs.Ballots.{IsMajority, is_majority, with_replica}
 use Rattle.majority.specs.Acceptors.{AcceptorState, accept_answer}
-use Rattle.majority.specs.Proposers.{Attempt, greater_report, promise_answer, ballot_for}
+use Rattle.majority.specs.Proposers.{Attempt, promise_answer, ballot_for, accepted_answer, accepted_answer_heard}
 use Rattle.majority.specs.Votes.{Vote, HasVote, IsChosenAt, IsChosen}
-use Rattle.majority.specs.Journals.{vote_found, greatest_at, value_told, IsRecovered, AreOfReplicas, HoldAcceptances}
-use Rattle.majority.specs.declared.journal.VoteJournal.{VoteJournal}
+use Rattle.majority.specs.declared.answers.AcceptedAnswer.{AcceptedAnswer}
+use Rattle.majority.specs.declared.answers.AcceptedAnswer.TheVariants as accepting
 use Rattle.majority.specs.declared.answers.AcceptAnswer.{AcceptAnswer}
 use Rattle.majority.specs.declared.answers.AcceptAnswer.TheVariants as accept
 use Rattle.majority.specs.declared.answers.PromiseAnswer.{PromiseAnswer}
 use Rattle.majority.specs.declared.answers.PromiseAnswer.TheVariants as promise
 use Rattle.majority.specs.Slot.{Message, Prepare, Promise, Accept, Accepted, SlotEvent, Start, Comes, Restart, SlotState, fresh_slot, slot_started, start_happens, message_comes, promise_answered, promise_comes, accepted_comes, votes_for_accept, votes_for_promise, slot_after, slot_run}
 use Rattle.majority.proofs.Lists.{Contains-here, Contains-later, Contains-cases, Contains-none}
-use Rattle.majority.proofs.Majorities.{MajoritiesMeet}
-use Rattle.majority.proofs.Agreement.{IsLastVote, AttemptStands, IsAttemptIfAny, IsAttempt, IsAgreed, IsSound, bars_of, Covers}
-use Rattle.majority.proofs.Chosen.{ChosenIsCarried}
-use Rattle.majority.proofs.Heard.{Covers-first, Covers-second, Covers_refl, IsOfVote-greater, IsOfVote-own}
-use Rattle.majority.proofs.Safety.{IsOfVote}
+use Rattle.majority.proofs.Agreement.{IsLastVote, AttemptStands, AttemptsAreVoted, IsAttemptIfAny, IsAttempt, IsAgreed, IsSound, bars_of, Covers}
+use Rattle.majority.proofs.Chosen.{OneValuePerBallot}
+use Rattle.majority.proofs.Members.{IsDistinct-with_replica, All-with_replica}
+use Rattle.majority.proofs.Promises.{most_from_test}
 
--- a member of what a function made of a list is made of a member
-Contains-map : {X Y : Type 0} (f : X → Y) (xs : List X) (y : Y) → Contains (map f xs) y → (x : X) × Contains xs x × (f x ≡ y)
-Contains-map f [] y member = absurd (Contains-none y member)
-Contains-map f (x ∷ xs) y member =
-    elim (Contains-cases (f x) y (map f xs) member) [
-      | inl same ↦ (x, Contains-here x xs, same)
-      | inr later ↦ let rest = Contains-map f xs y later in (rest.0, Contains-later x rest.0 xs rest.1, rest.2)
-    ]
+-- the answer that a value is chosen comes where the test holds
+chosen_test : (test : Bool) (have : ℕ) → (let answer : AcceptedAnswer = if test then accepting.Chosen else accepting.Waiting have in answer) ≡ accepting.Chosen → test ≡ true
+chosen_test true have e = refl
+chosen_test false have e = absurd (cc)
 
 module _ {V : Type 0} where
   -- each vote of the first list is in the second
@@ -60,7 +55,7 @@ module _ {V : Type 0} where
       of_attempt None = λ vote member. member
       of_attempt (Some a) =
           both (λ after. KeepsVotes slot.votes after.votes) (a.ballot == ballot) (promise_answered (promise_answer from report (slot.acceptors i) a) i from report a slot) slot
-            (kept_by_promise (promise_answer from report (slot.acceptors i) a) i a.ballot slot.votes) (λ vote member. member)
+          (kept_by_promise (promise_answer from report (slot.acceptors i) a) i a.ballot slot.votes) (λ vote member. member)
   kept_by_message i (Some (Accept ballot value)) slot = kept_by_accept (accept_answer ballot (slot.acceptors i)) i ballot value slot.votes
   kept_by_message i (Some (Accepted from ballot)) slot = of_attempt (slot.attempts i)
     where
@@ -76,8 +71,8 @@ module _ {V : Type 0} where
   kept_by_event n (Start i highest wish) slot =
       let b = ballot_for i n highest (slot.acceptors i) in
       both (λ after. KeepsVotes slot.votes after.votes) (nat_lt i n) (start_happens i n b wish slot) slot
-        (both (λ after. KeepsVotes slot.votes after.votes) (nat_lt b (2 ^ 31)) (slot_started i n b wish slot) slot (kept_by_start i n b wish slot (b == 0)) (λ vote member. member))
-        (λ vote member. member)
+      (both (λ after. KeepsVotes slot.votes after.votes) (nat_lt b (2 ^ 31)) (slot_started i n b wish slot) slot (kept_by_start i n b wish slot (b == 0)) (λ vote member. member))
+      (λ vote member. member)
   kept_by_event n (Comes i which) slot =
       both (λ after. KeepsVotes slot.votes after.votes) (nat_lt i n) (message_comes i (slice_get slot.sent which) slot) slot (kept_by_message i (slice_get slot.sent which) slot) (λ vote member. member)
   kept_by_event n (Restart i) slot = λ vote member. member
@@ -102,66 +97,30 @@ module _ {V : Type 0} where
       let voted = subst (λ s. AttemptStands slot.votes slot.sent n a s) sending attempt.stands in
       (a.acceptances, record { within = voted.within; distinct = voted.distinct; most = most }, All-weaker (Contains a.acceptances) (λ j. HasVote slot.votes j a.ballot v) (λ j member. voted.voted j member) a.acceptances (All-contains_itself a.acceptances))
 
-  -- Journals.
+  -- while a value is being sent, the answer that it is chosen means a majority
+  majority_from_answer : (sending : Option V) (v : V) (n from : ℕ) (acceptances : List ℕ) → sending ≡ Some v →
+      (let answer : AcceptedAnswer = if is_some sending then accepted_answer_heard n (with_replica from acceptances) else accepting.Early in answer) ≡ accepting.Chosen → is_majority n (with_replica from acceptances) ≡ true
+  majority_from_answer None v n from acceptances s e = absurd (cc)
+  majority_from_answer (Some w) v n from acceptances s e = chosen_test (is_majority n (with_replica from acceptances)) (length (with_replica from acceptances)) e
 
-  -- the greatest acceptance that journals have is of no lower ballot than that of each
-  Covers-each : (place : ℕ) (journals : List (VoteJournal V)) (journal : VoteJournal V) → Contains journals journal → Covers (greatest_at place journals) (vote_found (slice_get journal.votes place))
-  Covers-each place [] journal member = absurd (Contains-none journal member)
-  Covers-each place (first ∷ journals) journal member =
-      let here = vote_found (slice_get first.votes place) in
-      elim (Contains-cases first journal journals member) [
-        | inl same ↦ subst (λ j. Covers (greater_report here (greatest_at place journals)) (vote_found (slice_get j.votes place))) same (Covers-first here (greatest_at place journals) here (Covers_refl here))
-        | inr later ↦ Covers-second here (greatest_at place journals) (vote_found (slice_get journal.votes place)) (Covers-each place journals journal later)
-      ]
-
-  IsOfVote-journals : (n : ℕ) (held : ℕ → AcceptorState V) (votes : List (Vote V)) (sent : List (Message V)) (place : ℕ) (journals : List (VoteJournal V)) → IsAgreed n held votes sent → HoldAcceptances held place journals → IsOfVote votes (greatest_at place journals)
-  IsOfVote-journals n held votes sent place [] agreed hold = tt
-  IsOfVote-journals n held votes sent place (first ∷ journals) agreed hold =
-      let P : VoteJournal V → Type 0 = λ journal. vote_found (slice_get journal.votes place) ≡ (held journal.replica).accepted in
-      let here = vote_found (slice_get first.votes place) in
-      IsOfVote-greater votes here (greatest_at place journals)
-        (subst (IsOfVote votes) (sym (All-head P first journals hold)) (IsOfVote-own n votes first.replica (held first.replica) (agreed.acceptors first.replica)))
-        (IsOfVote-journals n held votes sent place journals agreed (All-tail P first journals hold))
-
-  reached : (votes : List (Vote V)) (i b : ℕ) (v : V) (last greatest : Option (ℕ × V)) → HasVote votes i b v → IsLastVote votes i last → Covers greatest last → (g : ℕ × V) × (greatest ≡ Some g) × (b ≤ g.0)
-  reached votes i b v None greatest vote holds covered = absurd (holds b v vote)
-  reached votes i b v (Some last) None vote holds covered = absurd covered
-  reached votes i b v (Some last) (Some g) vote holds covered =
-      let bound : b ≤ last.0 = holds.1 b v vote in
-      let no_less : last.0 ≤ g.0 = covered in
-      (g, refl, omega arith)
-
-  -- journals of a majority tell the chosen value, at the greatest ballot
-  pub greatest_at-chosen : (n : ℕ) (held : ℕ → AcceptorState V) (votes : List (Vote V)) (sent : List (Message V)) (place : ℕ) (journals : List (VoteJournal V)) (v : V) →
-      IsAgreed n held votes sent → IsChosen n votes v → AreOfReplicas n journals → n < 2 * length journals → HoldAcceptances held place journals →
-      (ballot : ℕ) × (greatest_at place journals ≡ Some (ballot, v))
-  greatest_at-chosen n held votes sent place journals v agreed chosen replicas most hold =
-      let number : VoteJournal V → ℕ = λ journal. journal.replica in
-      let majority : IsMajority n (map number journals) = record {
-        within = All-map (λ k. k < n) number journals replicas.within;
-        distinct = replicas.distinct;
-        most = omega (arith, most, length-map journals number);
-      } in
-      let common = MajoritiesMeet n chosen.1.0 (map number journals) chosen.1.1 majority in
-      let voted : HasVote votes common.0 chosen.0 v = All-contains (λ replica. HasVote votes replica chosen.0 v) chosen.1.0 common.0 chosen.1.2 common.1 in
-      let found = Contains-map number journals common.0 common.2 in
-      let journal = found.0 in
-      let P : VoteJournal V → Type 0 = λ j. vote_found (slice_get j.votes place) ≡ (held j.replica).accepted in
-      let same : vote_found (slice_get journal.votes place) ≡ (held journal.replica).accepted = All-contains P journals journal hold found.1 in
-      let covered : Covers (greatest_at place journals) (held journal.replica).accepted = subst (Covers (greatest_at place journals)) same (Covers-each place journals journal found.1) in
-      let vote : HasVote votes journal.replica chosen.0 v = subst (λ k. HasVote votes k chosen.0 v) (sym found.2) voted in
-      let top = reached votes journal.replica chosen.0 v (held journal.replica).accepted (greatest_at place journals) vote (agreed.acceptors journal.replica).last covered in
-      let cast : IsOfVote votes (Some top.0) = subst (IsOfVote votes) top.1 (IsOfVote-journals n held votes sent place journals agreed hold) in
-      let value : top.0.1 ≡ v = ChosenIsCarried n votes (bars_of held) agreed.one_vote agreed.owners agreed.safe chosen.0 top.0.0 cast.0 v top.0.1 chosen.1 cast.1 top.2 in
-      (top.0.0, top.1 ∙ ap (λ w. Some (top.0.0, w)) value)
-
-  -- and what is recovered from them has it in its place
-  pub slice_get-recovered : (journals : List (VoteJournal V)) (values : List V) (place ballot : ℕ) (v : V) → IsRecovered journals values → place ≤ length values → greatest_at place journals ≡ Some (ballot, v) → slice_get values place ≡ Some v
-  slice_get-recovered journals values place ballot v recovered within greatest =
-      elim (cases_lt place (length values)) [
-        | inl below ↦ sym (recovered.each place below) ∙ ap (option_map (λ (vote : ℕ × V). vote.1)) greatest
-        | inr past ↦
-          let same : place ≡ length values = omega arith in
-          let ends : greatest_at place journals ≡ None = subst (λ k. greatest_at k journals ≡ None) (sym same) recovered.ends in
-          absurd (cc)
-      ]
+  -- an attempt that answers to an acceptance that its value is chosen has had it chosen
+  pub IsChosen-answered : (n i from : ℕ) (slot : SlotState V) (a : Attempt V) (v : V) → IsSound n slot → slot.attempts i ≡ Some a → a.sending ≡ Some v →
+      (from ≡ i) ⊎ Contains slot.sent (Accepted from a.ballot) → accepted_answer from a ≡ accepting.Chosen → IsChosenAt n slot.votes a.ballot v
+  IsChosen-answered n i from slot a v sound stood sending came answer =
+      let attempt : IsAttempt n slot.votes (bars_of slot.acceptors i) slot.sent i a = subst (λ t. IsAttemptIfAny n slot.votes (bars_of slot.acceptors i) slot.sent i t) stood (sound.attempts i) in
+      let before : AttemptsAreVoted slot.votes n a v = subst (λ s. AttemptStands slot.votes slot.sent n a s) sending attempt.stands in
+      let vote : HasVote slot.votes from a.ballot v = elim came [
+        | inl own ↦ subst (λ k. HasVote slot.votes k a.ballot v) (attempt.here ∙ sym own) before.own
+        | inr member ↦
+            let accepted = sound.agreed.messages (Accepted from a.ballot) member in
+            subst (λ w. HasVote slot.votes from a.ballot w) (OneValuePerBallot n slot.votes sound.agreed.one_vote sound.agreed.owners from a.replica a.ballot accepted.0 v accepted.1 before.own) accepted.1
+      ] in
+      let most = most_from_test n a.n (with_replica from a.acceptances) attempt.count (majority_from_answer a.sending v a.n from a.acceptances sending answer) in (
+        with_replica from a.acceptances,
+        record {
+          within = All-with_replica (λ k. k < n) from a.acceptances before.within ((sound.agreed.acceptors from).within a.ballot v vote);
+          distinct = IsDistinct-with_replica from a.acceptances before.distinct;
+          most = most;
+        },
+        All-with_replica (λ k. HasVote slot.votes k a.ballot v) from a.acceptances (All-weaker (Contains a.acceptances) (λ j. HasVote slot.votes j a.ballot v) (λ j member. before.voted j member) a.acceptances (All-contains_itself a.acceptances)) vote,
+      )

@@ -27,11 +27,14 @@ module _ {V : Type 0} where
 
     pub IsSafeAt-kept : (n ballot : ℕ) (value : V) → IsSafeAt n votes bars ballot value → IsSafeAt n votes' bars' ballot value
     IsSafeAt-kept n ballot value safe lower below =
-        let quorum = safe lower below in
-        (quorum.0, quorum.1, λ replica member. elim (quorum.2 replica member) [
-          | inl vote ↦ inl (grows.votes_kept replica lower value vote)
-          | inr none ↦ inr (HasNoVote-kept replica lower none.1 none.0, grows.bars_grow replica (suc lower) none.1)
-        ])
+        let quorum = safe lower below in (
+          quorum.0,
+          quorum.1,
+          λ replica member. elim (quorum.2 replica member) [
+            | inl vote ↦ inl (grows.votes_kept replica lower value vote)
+            | inr none ↦ inr (HasNoVote-kept replica lower none.1 none.0, grows.bars_grow replica (suc lower) none.1)
+          ],
+        )
 
     Tells-kept : (from ballot : ℕ) (report : Option (ℕ × V)) → Reaches (bars from) ballot → Tells votes from ballot report → Tells votes' from ballot report
     Tells-kept from ballot None barred tells =

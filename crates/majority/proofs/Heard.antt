@@ -86,9 +86,9 @@ module _ {V : Type 0} where
       record {
         heard = λ j among. elim (Contains-with_replica from j a.promises among) [
           | inl old ↦ elim (have.heard j old) [
-              | inl own ↦ inl own
-              | inr other ↦ inr (other.0, other.1, Covers-first a.reported report other.0 other.2)
-            ]
+            | inl own ↦ inl own
+            | inr other ↦ inr (other.0, other.1, Covers-first a.reported report other.0 other.2)
+          ]
           | inr new ↦ inr (report, subst (λ k. Contains sent (Promise k a.ballot report)) new member, Covers-second a.reported report report (Covers_refl report))
         ];
         reported = WasReported-greater sent a.ballot a.reported report have.reported (WasReported-sent sent from a.ballot report member);

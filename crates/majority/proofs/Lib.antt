@@ -15,3 +15,4 @@ pub mod Starts
 pub mod Promises
 pub mod Schedules
 pub mod Decided
+pub mod Telling

@@ -39,13 +39,13 @@ IsNextBallot-next replica n floor within =
     let rest : floor % n < n = mod-lt floor (omega arith) in
     elim (leb_tells (suc floor) (floor / n * n + replica)) [
       | inl above ↦ rw above.0 (record {
-          above = omega (arith, above.1);
-          owned = mod-mul-add (floor / n) n replica within;
-          least = λ other more owned. no_less (floor / n) (other / n) n replica floor other within (omega arith) (ap (λ r. other / n * n + r) (sym owned) ∙ div-add-mod' other n) more;
-        })
+        above = omega (arith, above.1);
+        owned = mod-mul-add (floor / n) n replica within;
+        least = λ other more owned. no_less (floor / n) (other / n) n replica floor other within (omega arith) (ap (λ r. other / n * n + r) (sym owned) ∙ div-add-mod' other n) more;
+      })
       | inr below ↦ rw below.0 (record {
-          above = omega arith;
-          owned = add-mod_right (floor / n * n + replica) n ∙ mod-mul-add (floor / n) n replica within;
-          least = λ other more owned. no_less_above (floor / n) (other / n) n replica floor other within (omega (arith, below.1)) (ap (λ r. other / n * n + r) (sym owned) ∙ div-add-mod' other n) more;
-        })
+        above = omega arith;
+        owned = add-mod_right (floor / n * n + replica) n ∙ mod-mul-add (floor / n) n replica within;
+        least = λ other more owned. no_less_above (floor / n) (other / n) n replica floor other within (omega (arith, below.1)) (ap (λ r. other / n * n + r) (sym owned) ∙ div-add-mod' other n) more;
+      })
     ]

@@ -45,7 +45,6 @@ module _ {V : Type 0} where
 
   module _ (n i : ℕ) (slot : SlotState V) (within : i < n) (sound : IsSound n slot) (from : ℕ) (report : Option (ℕ × V)) (a : Attempt V)
       (member : Contains slot.sent (Promise from a.ballot report)) (attempt : IsAttempt n slot.votes (bars_of slot.acceptors i) slot.sent i a) where
-
     told : PromisesTell n slot.votes (bars_of slot.acceptors) from a.ballot report
     told = sound.agreed.messages (Promise from a.ballot report) member
 
@@ -79,19 +78,19 @@ module _ {V : Type 0} where
     has_told e below j among =
         elim ((stands e).1.heard j among) [
           | inl own ↦ subst (λ k. HasTold slot.votes (bars_of slot.acceptors) a.ballot (greater_report (slot.acceptors i).accepted (greater_report a.reported report)) k) (sym (own ∙ attempt.here)) (record {
-              report = (slot.acceptors i).accepted;
-              tells = Tells-own n slot.votes i a.ballot (slot.acceptors i) (sound.agreed.acceptors i) below;
-              barred = attempt.barred;
-              covered = Covers-first (slot.acceptors i).accepted (greater_report a.reported report) (slot.acceptors i).accepted (Covers_refl (slot.acceptors i).accepted);
-            })
+            report = (slot.acceptors i).accepted;
+            tells = Tells-own n slot.votes i a.ballot (slot.acceptors i) (sound.agreed.acceptors i) below;
+            barred = attempt.barred;
+            covered = Covers-first (slot.acceptors i).accepted (greater_report a.reported report) (slot.acceptors i).accepted (Covers_refl (slot.acceptors i).accepted);
+          })
           | inr other ↦
-            let tale : PromisesTell n slot.votes (bars_of slot.acceptors) j a.ballot other.0 = sound.agreed.messages (Promise j a.ballot other.0) other.1 in
-            record {
-              report = other.0;
-              tells = tale.tells;
-              barred = tale.barred;
-              covered = Covers-second (slot.acceptors i).accepted (greater_report a.reported report) other.0 other.2;
-            }
+              let tale : PromisesTell n slot.votes (bars_of slot.acceptors) j a.ballot other.0 = sound.agreed.messages (Promise j a.ballot other.0) other.1 in
+              record {
+                report = other.0;
+                tells = tale.tells;
+                barred = tale.barred;
+                covered = Covers-second (slot.acceptors i).accepted (greater_report a.reported report) other.0 other.2;
+              }
         ]
 
     -- the value to send is safe
@@ -100,12 +99,12 @@ module _ {V : Type 0} where
     safe e below majority =
         let most = most_from_test n a.n (with_replica from a.promises) attempt.count majority in
         IsSafeAt-from_reports n slot.votes (bars_of slot.acceptors) sound.agreed.one_vote sound.agreed.owners sound.agreed.safe a.ballot (with_replica from a.promises)
-          (greater_report (slot.acceptors i).accepted (greater_report a.reported report)) a.wish
-          (record { within = promises_within; distinct = promises_distinct; most = most })
-          (IsOfVote-greater slot.votes (slot.acceptors i).accepted (greater_report a.reported report)
-            (IsOfVote-own n slot.votes i (slot.acceptors i) (sound.agreed.acceptors i))
-            (IsOfVote-reported n slot.votes (bars_of slot.acceptors) slot.sent a.ballot (greater_report a.reported report) (λ k t sent. sound.agreed.messages (Promise k a.ballot t) sent) (stands e).1.reported))
-          (has_told e below)
+        (greater_report (slot.acceptors i).accepted (greater_report a.reported report)) a.wish
+        (record { within = promises_within; distinct = promises_distinct; most = most })
+        (IsOfVote-greater slot.votes (slot.acceptors i).accepted (greater_report a.reported report)
+        (IsOfVote-own n slot.votes i (slot.acceptors i) (sound.agreed.acceptors i))
+        (IsOfVote-reported n slot.votes (bars_of slot.acceptors) slot.sent a.ballot (greater_report a.reported report) (λ k t sent. sound.agreed.messages (Promise k a.ballot t) sent) (stands e).1.reported))
+        (has_told e below)
 
     -- the attempt sends a value that is safe at its ballot
     IsSound-send : (value : V) → a.sending ≡ None → (Reaches (bars_of slot.acceptors i) (suc a.ballot) → ⊥) → IsSafeAt n slot.votes (bars_of slot.acceptors) a.ballot value →
@@ -118,23 +117,23 @@ module _ {V : Type 0} where
         let held' = with_entry i (with_vote b value (slot.acceptors i)) slot.acceptors in
         record {
           agreed = IsAgreed-vote n slot.acceptors slot.votes slot.sent i b value message below within sound.agreed (inr (attempt.owned, (stands e).0.unvoted)) is_safe
-            (subst (λ k. HasVote votes' k b value) (sym attempt.owned) here);
+              (subst (λ k. HasVote votes' k b value) (sym attempt.owned) here);
           attempts = with_entry-cases (λ (j : ℕ) (t : Option (Attempt V)). IsAttemptIfAny n votes' (bars_of held' j) (message ∷ slot.sent) j t) i _ slot.attempts
-            (record {
-              here = attempt.here;
-              count = attempt.count;
-              owned = attempt.owned;
-              barred = Reaches-here i b (with_vote b value (slot.acceptors i)) slot.acceptors (omega arith);
-              within = promises_within;
-              distinct = promises_distinct;
-              stands = record {
-                own = subst (λ k. HasVote votes' k b value) (sym attempt.here) here;
-                within = All-alone (λ k. k < n) a.replica (subst (λ k. k < n) (sym attempt.here) within);
-                distinct = IsDistinct-cons a.replica [] tt IsDistinct-nil;
-                voted = λ j alone. subst (λ k. HasVote votes' k b value) (sym attempt.here ∙ Contains-alone a.replica j alone) here;
-              };
-            })
-            (others_kept n i b value slot message below attempt.owned sound);
+              (record {
+                here = attempt.here;
+                count = attempt.count;
+                owned = attempt.owned;
+                barred = Reaches-here i b (with_vote b value (slot.acceptors i)) slot.acceptors (omega arith);
+                within = promises_within;
+                distinct = promises_distinct;
+                stands = record {
+                  own = subst (λ k. HasVote votes' k b value) (sym attempt.here) here;
+                  within = All-alone (λ k. k < n) a.replica (subst (λ k. k < n) (sym attempt.here) within);
+                  distinct = IsDistinct-cons a.replica [] tt IsDistinct-nil;
+                  voted = λ j alone. subst (λ k. HasVote votes' k b value) (sym attempt.here ∙ Contains-alone a.replica j alone) here;
+                };
+              })
+              (others_kept n i b value slot message below attempt.owned sound);
         }
 
     IsSound-answered : slot.attempts i ≡ Some a → (answer : PromiseAnswer V) → promise_answer from report (slot.acceptors i) a ≡ answer → IsSound n (promise_answered answer i from report a slot)
@@ -159,9 +158,9 @@ module _ {V : Type 0} where
   IsSound-promise n i from ballot report slot within member sound (Some a) e =
       elim (eqb_tells a.ballot ballot) [
         | inl same ↦
-          let here : Contains slot.sent (Promise from a.ballot report) = subst (λ b. Contains slot.sent (Promise from b report)) (sym same.1) member in
-          let attempt : IsAttempt n slot.votes (bars_of slot.acceptors i) slot.sent i a = subst (λ t. IsAttemptIfAny n slot.votes (bars_of slot.acceptors i) slot.sent i t) e (sound.attempts i) in
-          rw same.0 (IsSound-answered n i slot within sound from report a here attempt e (promise_answer from report (slot.acceptors i) a) refl)
+            let here : Contains slot.sent (Promise from a.ballot report) = subst (λ b. Contains slot.sent (Promise from b report)) (sym same.1) member in
+            let attempt : IsAttempt n slot.votes (bars_of slot.acceptors i) slot.sent i a = subst (λ t. IsAttemptIfAny n slot.votes (bars_of slot.acceptors i) slot.sent i t) e (sound.attempts i) in
+            rw same.0 (IsSound-answered n i slot within sound from report a here attempt e (promise_answer from report (slot.acceptors i) a) refl)
         | inr other ↦ rw other.0 sound
       ]
 
@@ -203,6 +202,7 @@ module _ {V : Type 0} where
     where
       attempt : IsAttempt n slot.votes (bars_of slot.acceptors i) slot.sent i a
       attempt = subst (λ t. IsAttemptIfAny n slot.votes (bars_of slot.acceptors i) slot.sent i t) e (sound.attempts i)
+
       by_sending : Contains slot.sent (Accepted from a.ballot) → (s : Option V) → a.sending ≡ s →
           IsSound n (record slot { attempts = with_entry i (Some (if is_some s then with_acceptance from a else a)) slot.attempts })
       by_sending here None q = IsSound-attempt n i slot (Some a) sound attempt

@@ -36,31 +36,39 @@ module _ {V : Type 0} where
     told_above ballot lower replica voter greatest (Some report) vote tells covered above below =
         elim (cases_eq report.0 lower) [
           | inl same ↦
-            let no_less : report.0 ≤ greatest.0 = covered in
-            let at_greatest : report.0 ≡ greatest.0 = omega arith in
-            let given : HasVote votes replica greatest.0 report.1 = subst (λ b. HasVote votes replica b report.1) at_greatest tells.1 in
-            let value : report.1 ≡ greatest.1 = OneValuePerBallot n votes one owners replica voter greatest.0 report.1 greatest.1 given vote in
-            let here : HasVote votes replica lower report.1 = subst (λ b. HasVote votes replica b report.1) same tells.1 in
-            inl (subst (λ v. HasVote votes replica lower v) value here)
+              let no_less : report.0 ≤ greatest.0 = covered in
+              let at_greatest : report.0 ≡ greatest.0 = omega arith in
+              let given : HasVote votes replica greatest.0 report.1 = subst (λ b. HasVote votes replica b report.1) at_greatest tells.1 in
+              let value : report.1 ≡ greatest.1 = OneValuePerBallot n votes one owners replica voter greatest.0 report.1 greatest.1 given vote in
+              let here : HasVote votes replica lower report.1 = subst (λ b. HasVote votes replica b report.1) same tells.1 in
+              inl (subst (λ v. HasVote votes replica lower v) value here)
           | inr other ↦
-            let no_less : report.0 ≤ greatest.0 = covered in
-            inr (tells.2 lower (omega arith) below)
+              let no_less : report.0 ≤ greatest.0 = covered in
+              inr (tells.2 lower (omega arith) below)
         ]
 
     pub IsSafeAt-from_reports : SafeAtBallot n votes bars → (ballot : ℕ) (quorum : List ℕ) (greatest : Option (ℕ × V)) (wish : V) →
         IsMajority n quorum → IsOfVote votes greatest → ((replica : ℕ) → Contains quorum replica → HasTold votes bars ballot greatest replica) →
         IsSafeAt n votes bars ballot (value_of_report greatest wish)
     IsSafeAt-from_reports safe ballot quorum None wish majority vote told =
-        λ lower below. (quorum, majority, λ replica member.
-          let tale = told replica member in
-          inr (nothing_told votes replica ballot lower tale.report tale.tells tale.covered below, Reaches-lower (bars replica) ballot (suc lower) tale.barred (omega arith)))
+        λ lower below. (
+          quorum,
+          majority,
+          λ replica member.
+              let tale = told replica member in
+              inr (nothing_told votes replica ballot lower tale.report tale.tells tale.covered below, Reaches-lower (bars replica) ballot (suc lower) tale.barred (omega arith)),
+        )
     IsSafeAt-from_reports safe ballot quorum (Some greatest) wish majority vote told =
         λ lower below. elim (cases_lt lower greatest.0) [
           | inl earlier ↦ safe vote.0 greatest.0 greatest.1 vote.1 lower earlier
-          | inr above ↦ (quorum, majority, λ replica member.
-              let tale = told replica member in
-              elim (told_above ballot lower replica vote.0 greatest tale.report vote.1 tale.tells tale.covered above below) [
-                | inl voted ↦ inl voted
-                | inr none ↦ inr (none, Reaches-lower (bars replica) ballot (suc lower) tale.barred (omega arith))
-              ])
+          | inr above ↦ (
+            quorum,
+            majority,
+            λ replica member.
+                let tale = told replica member in
+                elim (told_above ballot lower replica vote.0 greatest tale.report vote.1 tale.tells tale.covered above below) [
+                  | inl voted ↦ inl voted
+                  | inr none ↦ inr (none, Reaches-lower (bars replica) ballot (suc lower) tale.barred (omega arith))
+                ],
+          )
         ]

@@ -57,12 +57,12 @@ module _ {V : Type 0} where
   pub IsSound-after : (n : ℕ) (event : SlotEvent V) (slot : SlotState V) → IsSound n slot → IsSound n (slot_after n event slot)
   IsSound-after n (Start i highest wish) slot sound =
       below_test i n (λ t. IsSound n (if t then start_happens i n (ballot_for i n highest (slot.acceptors i)) wish slot else slot))
-        (λ within. below_test (ballot_for i n highest (slot.acceptors i)) (2 ^ 31) (λ t. IsSound n (if t then slot_started i n (ballot_for i n highest (slot.acceptors i)) wish slot else slot))
-          (λ below. IsSound-start n i wish slot within sound highest) sound)
-        sound
+      (λ within. below_test (ballot_for i n highest (slot.acceptors i)) (2 ^ 31) (λ t. IsSound n (if t then slot_started i n (ballot_for i n highest (slot.acceptors i)) wish slot else slot))
+      (λ below. IsSound-start n i wish slot within sound highest) sound)
+      sound
   IsSound-after n (Comes i which) slot sound =
       below_test i n (λ t. IsSound n (if t then message_comes i (slice_get slot.sent which) slot else slot))
-        (λ within. comes n i (slice_get slot.sent which) slot within (λ message e. Contains-slice_get slot.sent which message e) sound) sound
+      (λ within. comes n i (slice_get slot.sent which) slot within (λ message e. Contains-slice_get slot.sent which message e) sound) sound
   IsSound-after n (Restart i) slot sound = IsSound-restart n i slot sound
 
   pub IsSound-run : (n : ℕ) (events : List (SlotEvent V)) (slot : SlotState V) → IsSound n slot → IsSound n (slot_run n events slot)

@@ -34,7 +34,7 @@ module _ {V : Type 0} where
       IsAttemptIfAny n slot.votes (bars_of slot.acceptors i) slot.sent i attempt → IsSound n (record slot { attempts = with_entry i attempt slot.attempts })
   IsSound-attempt n i slot attempt sound stands =
       IsSound-attempts n slot (with_entry i attempt slot.attempts) sound
-        (with_entry-cases (λ (j : ℕ) (a : Option (Attempt V)). IsAttemptIfAny n slot.votes (bars_of slot.acceptors j) slot.sent j a) i attempt slot.attempts stands (λ j other. sound.attempts j))
+      (with_entry-cases (λ (j : ℕ) (a : Option (Attempt V)). IsAttemptIfAny n slot.votes (bars_of slot.acceptors j) slot.sent j a) i attempt slot.attempts stands (λ j other. sound.attempts j))
 
   pub IsSound-restart : (n i : ℕ) (slot : SlotState V) → IsSound n slot → IsSound n (record slot { attempts = with_entry i None slot.attempts })
   IsSound-restart n i slot sound = IsSound-attempt n i slot None sound tt
@@ -44,9 +44,9 @@ module _ {V : Type 0} where
       IsAttemptIfAny n (record { replica = i; ballot = b; value = v } ∷ slot.votes) (bars_of (with_entry i (with_vote b v (slot.acceptors i)) slot.acceptors) j) (message ∷ slot.sent) j (slot.attempts j)
   others_kept n i b v slot message free owned sound j other =
       IsAttemptIfAny-kept slot.votes (record { replica = i; ballot = b; value = v } ∷ slot.votes) (bars_of slot.acceptors) (bars_of (with_entry i (with_vote b v (slot.acceptors i)) slot.acceptors)) slot.sent (message ∷ slot.sent)
-        (Grows-vote n slot.acceptors slot.votes slot.sent i b v message free) n j (slot.attempts j)
-        (λ ballot above owner none. HasNoVote-other slot.votes i b v ballot (λ same. other (sym owner ∙ (ap (λ d. d % n) (sym same) ∙ owned))) none)
-        (sound.attempts j)
+      (Grows-vote n slot.acceptors slot.votes slot.sent i b v message free) n j (slot.attempts j)
+      (λ ballot above owner none. HasNoVote-other slot.votes i b v ballot (λ same. other (sym owner ∙ (ap (λ d. d % n) (sym same) ∙ owned))) none)
+      (sound.attempts j)
 
   module _ (n i : ℕ) (wish : V) (slot : SlotState V) (within : i < n) (sound : IsSound n slot) where
     -- a start at a ballot that the replica owns and that its promise is below
@@ -60,16 +60,16 @@ module _ {V : Type 0} where
         rw test (record {
           agreed = IsAgreed-promise n slot.acceptors slot.votes slot.sent i b message free sound.agreed tt;
           attempts = with_entry-cases (λ (j : ℕ) (a : Option (Attempt V)). IsAttemptIfAny n slot.votes (bars_of held' j) (message ∷ slot.sent) j a) i _ slot.attempts
-            (record {
-              here = refl;
-              count = refl;
-              owned = owned;
-              barred = Reaches-here i b (with_promise b (slot.acceptors i)) slot.acceptors (omega arith);
-              within = All-alone (λ k. k < n) i within;
-              distinct = IsDistinct-cons i [] tt IsDistinct-nil;
-              stands = (record { above = above; unvoted = unvoted }, record { heard = λ j member. inl (sym (Contains-alone i j member)); reported = tt });
-            })
-            (λ j other. IsAttemptIfAny-kept slot.votes slot.votes (bars_of slot.acceptors) (bars_of held') slot.sent (message ∷ slot.sent) grows n j (slot.attempts j) (λ ballot positive owner none. none) (sound.attempts j));
+              (record {
+                here = refl;
+                count = refl;
+                owned = owned;
+                barred = Reaches-here i b (with_promise b (slot.acceptors i)) slot.acceptors (omega arith);
+                within = All-alone (λ k. k < n) i within;
+                distinct = IsDistinct-cons i [] tt IsDistinct-nil;
+                stands = (record { above = above; unvoted = unvoted }, record { heard = λ j member. inl (sym (Contains-alone i j member)); reported = tt });
+              })
+              (λ j other. IsAttemptIfAny-kept slot.votes slot.votes (bars_of slot.acceptors) (bars_of held') slot.sent (message ∷ slot.sent) grows n j (slot.attempts j) (λ ballot positive owner none. none) (sound.attempts j));
         })
 
     no_votes : (last : Option (ℕ × V)) → last ≡ None → IsLastVote slot.votes i last → (b : ℕ) → HasNoVote slot.votes i b
@@ -92,24 +92,24 @@ module _ {V : Type 0} where
         let held' = with_entry i (with_vote 0 wish (slot.acceptors i)) slot.acceptors in
         record {
           agreed = IsAgreed-vote n slot.acceptors slot.votes slot.sent i 0 wish message free within sound.agreed (inr (owned, unvoted))
-            (λ lower below. absurd (omega arith))
-            (subst (λ k. HasVote votes' k 0 wish) (sym owned) here);
+              (λ lower below. absurd (omega arith))
+              (subst (λ k. HasVote votes' k 0 wish) (sym owned) here);
           attempts = with_entry-cases (λ (j : ℕ) (a : Option (Attempt V)). IsAttemptIfAny n votes' (bars_of held' j) (message ∷ slot.sent) j a) i _ slot.attempts
-            (record {
-              here = refl;
-              count = refl;
-              owned = owned;
-              barred = Reaches-here i 0 (with_vote 0 wish (slot.acceptors i)) slot.acceptors (omega arith);
-              within = All-alone (λ k. k < n) i within;
-              distinct = IsDistinct-cons i [] tt IsDistinct-nil;
-              stands = record {
-                own = here;
+              (record {
+                here = refl;
+                count = refl;
+                owned = owned;
+                barred = Reaches-here i 0 (with_vote 0 wish (slot.acceptors i)) slot.acceptors (omega arith);
                 within = All-alone (λ k. k < n) i within;
                 distinct = IsDistinct-cons i [] tt IsDistinct-nil;
-                voted = λ j member. subst (λ k. HasVote votes' k 0 wish) (Contains-alone i j member) here;
-              };
-            })
-            (others_kept n i 0 wish slot message free owned sound);
+                stands = record {
+                  own = here;
+                  within = All-alone (λ k. k < n) i within;
+                  distinct = IsDistinct-cons i [] tt IsDistinct-nil;
+                  voted = λ j member. subst (λ k. HasVote votes' k 0 wish) (Contains-alone i j member) here;
+                };
+              })
+              (others_kept n i 0 wish slot message free owned sound);
         }
 
     not_reached : (promise : Option ℕ) (highest b : ℕ) → max highest (unwrap_or promise 0) < b → Reaches promise b → ⊥

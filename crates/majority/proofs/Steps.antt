@@ -46,7 +46,7 @@ module _ {V : Type 0} where
       IsSound n (record { acceptors = held; attempts = attempts; votes = slot.votes; sent = slot.sent })
   IsSound-same n slot held attempts e f sound =
       subst (λ h. IsSound n (record { acceptors = h; attempts = attempts; votes = slot.votes; sent = slot.sent })) (sym e)
-        (subst (λ t. IsSound n (record { acceptors = slot.acceptors; attempts = t; votes = slot.votes; sent = slot.sent })) (sym f) sound)
+      (subst (λ t. IsSound n (record { acceptors = slot.acceptors; attempts = t; votes = slot.votes; sent = slot.sent })) (sym f) sound)
 
   -- a vote leaves a ballot unvoted that is another one
   pub HasNoVote-other : (votes : List (Vote V)) (i b : ℕ) (v : V) (ballot : ℕ) → (b ≡ ballot → ⊥) → ((j : ℕ) → HasNoVote votes j ballot) → (j : ℕ) → HasNoVote (record { replica = i; ballot = b; value = v } ∷ votes) j ballot
@@ -76,7 +76,7 @@ module _ {V : Type 0} where
               tells = Tells-own n slot.votes i b (slot.acceptors i) (sound.agreed.acceptors i) free;
             });
             attempts = λ j. IsAttemptIfAny-kept slot.votes slot.votes (bars_of slot.acceptors) (bars_of held') slot.sent (message ∷ slot.sent)
-              (Grows-promise n slot.acceptors slot.votes slot.sent i b message free) n j (slot.attempts j) (λ ballot above owned none. none) (sound.attempts j);
+                (Grows-promise n slot.acceptors slot.votes slot.sent i b message free) n j (slot.attempts j) (λ ballot above owned none. none) (sound.attempts j);
           }
 
   pub IsSound-accept : (n i b : ℕ) (v : V) (slot : SlotState V) → i < n → Contains slot.sent (Accept b v) → IsSound n slot → IsSound n (accept_comes i b v slot)
@@ -99,10 +99,10 @@ module _ {V : Type 0} where
           let owner : OwnersVoted n slot.votes b v = sound.agreed.messages (Accept b v) member in
           record {
             agreed = IsAgreed-vote n slot.acceptors slot.votes slot.sent i b v message free within sound.agreed (inl owner)
-              (sound.agreed.safe (b % n) b v owner)
-              (v, Contains-here (record { replica = i; ballot = b; value = v }) slot.votes);
+                (sound.agreed.safe (b % n) b v owner)
+                (v, Contains-here (record { replica = i; ballot = b; value = v }) slot.votes);
             attempts = λ j. IsAttemptIfAny-kept slot.votes votes' (bars_of slot.acceptors) (bars_of held') slot.sent (message ∷ slot.sent)
-              (Grows-vote n slot.acceptors slot.votes slot.sent i b v message free) n j (slot.attempts j)
-              (λ ballot above owned none. HasNoVote-other slot.votes i b v ballot (λ same. none (b % n) v (subst (λ d. HasVote slot.votes (b % n) d v) same owner)) none)
-              (sound.attempts j);
+                (Grows-vote n slot.acceptors slot.votes slot.sent i b v message free) n j (slot.attempts j)
+                (λ ballot above owned none. HasNoVote-other slot.votes i b v ballot (λ same. none (b % n) v (subst (λ d. HasVote slot.votes (b % n) d v) same owner)) none)
+                (sound.attempts j);
           }

@@ -11,12 +11,15 @@ mod acceptor;
 mod answers;
 mod errors;
 mod journal;
+pub mod laws;
 mod proposer;
 mod replicas;
 mod report;
+#[cfg(test)]
+mod tests;
 
 pub use acceptor::Acceptor;
 pub use answers::{AcceptAnswer, AcceptedAnswer, PrepareAnswer, PromiseAnswer};
 pub use errors::{RecoverError, StartError};
 pub use journal::{ValueList, VoteJournal, Votes, recover};
-pub use proposer::{BALLOTS, Proposer};
+pub use proposer::Proposer;

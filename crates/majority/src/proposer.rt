@@ -12,7 +12,7 @@ use std::marker::Model;
 mod steps;
 
 /// Ballots are below this number, 2^31.
-pub const BALLOTS: u32 = 0x8000_0000;
+const BALLOT_LIMIT: u64 = 0x8000_0000;
 
 /// One replica's attempt to have a value chosen for one slot, at one ballot. It is lost in a restart.
 /// Contracts see it as an `Attempt`.
@@ -86,7 +86,7 @@ impl<V: Clone> Proposer<V> {
         ensures err { OnErr result (own.new ≡ own.old) }
     {
         let ballot = ballot_for(replica, n, highest, own);
-        if ballot >= u64::from(BALLOTS) {
+        if ballot >= BALLOT_LIMIT {
             return Err(StartError::NoBallot { highest });
         }
         if ballot == 0 {

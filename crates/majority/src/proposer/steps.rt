@@ -28,6 +28,7 @@ impl<V: Clone> Proposer<V> {
         requires exact { (value copy : V) → V.is_clone value copy → copy ≡ value }
         ensures answer { IfOk result (λ answer. answer ≡ promise_answer from accepted own.old self.old) }
         ensures attempt { IfOk result (λ answer. self.new ≡ attempt_after_promise answer from accepted self.old) }
+        ensures count { self.new.n ≡ self.old.n }
         ensures own { IfOk result (λ answer. own.new ≡ own_after_promise answer self.old.ballot own.old) }
         ensures err { OnErr result (self.new ≡ self.old) }
         ensures own_err { OnErr result (own.new ≡ own.old) }
@@ -86,6 +87,7 @@ impl<V: Clone> Proposer<V> {
         requires { from < self.old.n }
         ensures answer { result ≡ accepted_answer from self.old }
         ensures attempt { self.new ≡ attempt_after_accepted from self.old }
+        ensures count { self.new.n ≡ self.old.n }
     {
         if self.sending.is_none() {
             return AcceptedAnswer::Early;
