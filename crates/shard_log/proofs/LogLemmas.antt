@@ -2,13 +2,13 @@ use Rattle.std.proofs.Common.{◌≡◌, ℕ, zero, suc, ◌+◌, ◌-◌, ◌<�
 use Rattle.std.specs.Option.{option_or, option_map, option_to_list, IfSome}
 use Rattle.std.specs.List.{list_all, cons_option, All, AllByRecursion}
 use Rattle.std.proofs.lemmas.Bool.{cases_lt, cond_both, lt-ltb, le-ltb, leb-true, and_parts, and_from}
-use Rattle.std.proofs.lemmas.List.Elements.{All-from_recursion}
+use Rattle.std.proofs.lemmas.List.Elements.{All-from_recursion, All-push, All-head, All-tail}
 use Rattle.std.proofs.lemmas.List.{take-append-drop}
 use Rattle.std.proofs.lemmas.List.Folds.{list_all-append}
 use Rattle.record_codec.specs.declared.record.Record.{Record}
 use Rattle.record_codec.specs.declared.record.Record.TheVariants.{Data, Noop}
 use Rattle.shard_log.specs.declared.index.Place.{Place}
-use Rattle.shard_log.specs.Records.{is_within, number_by}
+use Rattle.shard_log.specs.Records.{IsWithin, number_by}
 use Rattle.shard_log.specs.Places.{place_by, places_from, places_of, last_below, first_with}
 use Rattle.shard_log.specs.Indexed.{IsIndexed}
 use Rattle.shard_log.proofs.PlaceLemmas.{option_or-none, cons_option-nil}
@@ -83,26 +83,19 @@ pub last_below-places_of : (client end : ℕ) (log : List Record) → last_below
 last_below-places_of client end log = last_below-places_from client end 0 log ∙ ap (λ n. last_of client (take n log)) (let whole : end - 0 ≡ end = omega arith in whole)
 
 -- numbers of records within the limits are at most 2^48
-number_by-within : (client : ℕ) (r : Record) → is_within r ≡ true → IfSome (number_by client r) (λ n. n ≤ 2 ^ 48)
+number_by-within : (client : ℕ) (r : Record) → IsWithin r → IfSome (number_by client r) (λ n. n ≤ 2 ^ 48)
 number_by-within client Noop h = tt
 number_by-within client (Data owner own body) h =
-    let small : own ≤ 2 ^ 48 = leb-true own (2 ^ 48) (and_parts _ _ h).1 in
-    elim (owner == client) as (λ mine. IfSome (cond mine (Some own) None) (λ n. n ≤ 2 ^ 48)) [ true ↦ small | false ↦ tt ]
+    elim (owner == client) as (λ mine. IfSome (cond mine (Some own) None) (λ n. n ≤ 2 ^ 48)) [ true ↦ h.1 | false ↦ tt ]
 
 option_or-within : (a b : Option ℕ) → IfSome a (λ n. n ≤ 2 ^ 48) → IfSome b (λ n. n ≤ 2 ^ 48) → IfSome (option_or a b) (λ n. n ≤ 2 ^ 48)
 option_or-within None b h k = k
 option_or-within (Some x) b h k = h
 
-pub last_of-within : (client : ℕ) (log : List Record) → list_all is_within log ≡ true → IfSome (last_of client log) (λ n. n ≤ 2 ^ 48)
+pub last_of-within : (client : ℕ) (log : List Record) → All IsWithin log → IfSome (last_of client log) (λ n. n ≤ 2 ^ 48)
 last_of-within client [] h = tt
 last_of-within client (r ∷ rest) h =
-    let parts = and_parts (is_within r) (list_all is_within rest) h in
-    option_or-within (last_of client rest) (number_by client r) (last_of-within client rest parts.1) (number_by-within client r parts.0)
-
-pub list_all-take : (p : Record → Bool) (n : ℕ) (log : List Record) → list_all p log ≡ true → list_all p (take n log) ≡ true
-list_all-take p n log h =
-    let joined : list_all p (take n log ++ drop n log) ≡ true = ap (list_all p) (take-append-drop n log) ∙ h in
-    (and_parts _ _ (sym (list_all-append p (take n log) (drop n log)) ∙ joined)).0
+    option_or-within (last_of client rest) (number_by client r) (last_of-within client rest (All-tail IsWithin r rest h)) (number_by-within client r (All-head IsWithin r rest h))
 
 cons_option-append : {X : Type 0} (o : Option X) (xs ys : List X) → cons_option o (xs ++ ys) ≡ cons_option o xs ++ ys
 cons_option-append None xs ys = refl
@@ -133,11 +126,11 @@ places_of-below client log =
     All-from_recursion (λ (p : Place). p.local ≤ length log) (places_of client log) (places_from-below client 0 (length log) log (omega arith))
 
 -- an index of a log, with the place of one more record, is one of the log with that record
-pub IsIndexed-push : (log : List Record) (rec : Record) (old new : List (List Place)) → IsIndexed log old → is_within rec ≡ true
+pub IsIndexed-push : (log : List Record) (rec : Record) (old new : List (List Place)) → IsIndexed log old → IsWithin rec
     → ((client : ℕ) → client < 6 → get_or new client [] ≡ get_or old client [] ++ option_to_list (place_by client (length log) rec))
     → IsIndexed (log ++ rec ∷ []) new
 IsIndexed-push log rec old new index within places = record {
-  within = list_all-append is_within log (rec ∷ []) ∙ and_from _ _ index.within (and_from _ _ within refl);
+  within = All-push IsWithin log rec index.within within;
   places = λ client h.
       places client h ∙ ap (λ ps. ps ++ option_to_list (place_by client (length log) rec)) (index.places client h)
       ∙ ap (λ n. places_of client log ++ option_to_list (place_by client n rec)) (sym (zero-add (length log)))

@@ -1,11 +1,11 @@
-use Rattle.std.specs.Prelude.{◌≡◌, ℕ, ◌<◌, List, [], slice_index_or, IsTrue}
-use Rattle.std.specs.List.{list_all}
+use Rattle.std.specs.Prelude.{◌≡◌, ℕ, ◌<◌, List, [], slice_index_or}
+use Rattle.std.specs.List.{All}
 use Rattle.record_codec.specs.declared.record.Record.{Record}
 use Rattle.shard_log.specs.declared.index.Place.{Place}
-use Rattle.shard_log.specs.Records.{is_within}
+use Rattle.shard_log.specs.Records.{IsWithin}
 use Rattle.shard_log.specs.Places.{places_of}
 
 -- every record is within the limits, and each client's list has the places of its records
 pub record IsIndexed (log : List Record) (clients : List (List Place)) : Type 0 where
-  pub within : IsTrue (list_all is_within log)
+  pub within : All IsWithin log
   pub places : (client : ℕ) → client < 6 → slice_index_or clients client [] ≡ places_of client log

@@ -9,6 +9,8 @@ mod answers;
 mod index;
 mod laws;
 mod log;
+#[cfg(test)]
+mod tests;
 
 pub use answers::{Appended, Grown};
 pub use laws::log_laws;

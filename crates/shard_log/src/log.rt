@@ -1,9 +1,8 @@
-ghost use Rattle.std.specs.Prelude.{◌≡◌, ℕ, ◌+◌, ◌<◌, ◌≤◌, ◌^◌, ◌++◌, ◌∷◌, [], length, take, slice_get, IfOk, OnOk, OnErr, IfSome, IsTrue, All, slice_index_or};
+ghost use Rattle.std.specs.Prelude.{◌≡◌, ℕ, ◌+◌, ◌<◌, ◌≤◌, ◌^◌, ◌++◌, ◌∷◌, [], length, take, slice_get, IfOk, OnOk, OnErr, IfSome, All, slice_index_or};
 ghost use Rattle.std.specs.Option.{option_copied, option_to_list};
 ghost use Rattle.record_codec.specs.declared.record.Record.TheVariants.{Data};
 ghost use Rattle.shard_log.specs.declared.index.Place.{Place as PlaceOf};
-ghost use Rattle.shard_log.specs.Records.{is_within};
-ghost use Rattle.std.specs.List.{list_all};
+ghost use Rattle.shard_log.specs.Records.{IsWithin};
 ghost use Rattle.shard_log.specs.Places.{places_of, place_by};
 ghost use Rattle.shard_log.specs.ShardLog.{last_of, next_of, local_of, append_from_answer, append_from_log, append_noop_log, append_at_answer, append_at_log};
 
@@ -59,7 +58,8 @@ impl ShardLog {
 
     /// How many records the log has: the local of the next one.
     pub fn len(&self) -> u64
-        ensures { result ≡ length self.now }
+        ensures len { result ≡ length self.now }
+        ensures within { All IsWithin self.now }
     {
         self.records.len() as u64
     }
@@ -67,7 +67,7 @@ impl ShardLog {
     /// The record at `local`. None at or past the end.
     pub fn get(&self, local: u64) -> Option<&Record>
         ensures record { option_copied result ≡ slice_get self.now local }
-        ensures within { IfSome result (λ rec. IsTrue (is_within rec.now)) }
+        ensures within { IfSome result (λ rec. IsWithin rec.now) }
     {
         self.records.get(local as usize)
     }
@@ -106,14 +106,8 @@ impl ShardLog {
     {
         let expected = self.next_of(client, self.len()).unwrap_or(first);
         if number == expected {
-            let rec = Record::Data {
-                client,
-                number,
-                body,
-            };
-            return Ok(Appended::Taken {
-                local: self.push(rec)?,
-            });
+            let local = self.push(data(client, number, body))?;
+            return Ok(Appended::Taken { local });
         }
         Ok(match self.local_of(client, number) {
             Some(local) => Appended::Duplicate { local },
@@ -133,7 +127,7 @@ impl ShardLog {
     /// Puts a record at the end where `local` is the log's length. At every other answer, an error too, the log
     /// is as before.
     pub fn append_at(&mut self, local: u64, rec: Record) -> Result<Grown, OutOfMemory>
-        requires { IsTrue (is_within rec) }
+        requires { IsWithin rec }
         ensures answer { IfOk result (λ answer. answer ≡ append_at_answer local self.old) }
         ensures ok { OnOk result (self.new ≡ append_at_log local rec self.old) }
         ensures err { OnErr result (self.new ≡ self.old) }
@@ -147,7 +141,7 @@ impl ShardLog {
 
     /// Puts a record at the end, and tells its local.
     fn push(&mut self, rec: Record) -> Result<u64, OutOfMemory>
-        requires { IsTrue (is_within rec) }
+        requires { IsWithin rec }
         ensures local { IfOk result (λ local. local ≡ length self.old) }
         ensures ok { OnOk result (self.new ≡ self.old ++ rec ∷ []) }
         ensures err { OnErr result (self.new ≡ self.old) }
@@ -174,15 +168,30 @@ impl ShardLog {
     fn index_of(&self, client: u32) -> &ClientIndex
         requires { client ≤ 5 }
         ensures places { result.now ≡ places_of client self.now }
-        ensures within { IsTrue (list_all is_within self.now) }
+        ensures within { All IsWithin self.now }
     {
         &self.clients[client as usize]
     }
 }
 
+/// A client's record. Its body is within the limit, as every body is.
+pub fn data(client: u32, number: u64, body: Body) -> Record
+    requires client { client ≤ 5 }
+    requires number { number ≤ 2 ^ 48 }
+    ensures record { result ≡ Data client number body }
+    ensures within { IsWithin result }
+{
+    let _len = body.len();
+    Record::Data {
+        client,
+        number,
+        body,
+    }
+}
+
 /// Notes where a record stands, in its client's list. At an error nothing changes.
 fn note_place(clients: &mut [ClientIndex; 6], local: u64, rec: &Record) -> Result<(), OutOfMemory>
-    requires within { IsTrue (is_within rec.now) }
+    requires within { IsWithin rec.now }
     requires above { (client : ℕ) → client < 6 → All (λ (p : PlaceOf). p.local ≤ local) (slice_index_or clients.old client []) }
     ensures ok { OnOk result ((client : ℕ) → client < 6 → slice_index_or clients.new client [] ≡ slice_index_or clients.old client [] ++ option_to_list (place_by client local rec.now)) }
     ensures err { OnErr result (clients.new ≡ clients.old) }

@@ -1,8 +1,9 @@
 use Rattle.std.proofs.Common.{◌≡◌, take, ap, ◌∙◌}
 use Rattle.shard_log.specs.Places.{last_below}
 use Rattle.shard_log.specs.ShardLog.{last_of}
-use Rattle.shard_log.specs.Records.{is_within}
-use Rattle.shard_log.proofs.LogLemmas.{last_below-places_of, last_of-within, list_all-take}
+use Rattle.shard_log.specs.Records.{IsWithin}
+use Rattle.shard_log.proofs.LogLemmas.{last_below-places_of, last_of-within}
+use Rattle.std.proofs.lemmas.List.Elements.{All-take}
 use Rattle.shard_log.proofs.log.ShardLog.last_of.Goals as goal
 
 last : (c : goal.After-last_below) → c.last_below.result ≡ last_of c.args.client (take c.args.end c.args.self.now)
@@ -13,4 +14,4 @@ returns-clause-last c = last c
 
 pub returns-clause-small : goal.returns-clause-small
 returns-clause-small c =
-    rw (last c) (last_of-within c.args.client (take c.args.end c.args.self.now) (list_all-take is_within c.args.end c.args.self.now c.index_of.ensures.within))
+    rw (last c) (last_of-within c.args.client (take c.args.end c.args.self.now) (All-take IsWithin c.args.end c.args.self.now c.index_of.ensures.within))
