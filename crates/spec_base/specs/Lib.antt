@@ -2,5 +2,9 @@ pub mod Spelling
 pub mod Faults
 pub mod Plan
 pub mod Memory
+pub mod Disk
+pub mod Crash
+pub mod MemDisk
+pub mod MemDiskLaws
 pub mod Shelf
 pub mod MemShelf

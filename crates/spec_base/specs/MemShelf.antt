@@ -1,7 +1,8 @@
 -- What a shelf in memory shows of a name.
-use Rattle.std.specs.Prelude.{ℕ, Bool, false, List, Option, is_none}
+use Rattle.std.specs.Prelude.{ℕ, Bool, false, List, Option, None, is_none}
 use Rattle.std.specs.Option.{option_map_or}
 use Rattle.std.specs.BTreeMap.{get_by_text}
+use Rattle.spec_base.specs.MemDisk.{DiskMemory}
 use Rattle.spec_base.specs.declared.mem_shelf.MemShelf.{MemShelf}
 use Rattle.spec_base.specs.declared.mem_shelf.Slot.{Slot}
 
@@ -11,8 +12,14 @@ slot_of shelf name = get_by_text shelf.slots name
 abbrev pub faults_of : MemShelf → List ℕ → ℕ
 faults_of shelf name = option_map_or (λ (slot : Slot). slot.faults) (slot_of shelf name) 0
 
+abbrev pub row_of : MemShelf → List ℕ → ℕ
+row_of shelf name = option_map_or (λ (slot : Slot). slot.row) (slot_of shelf name) 0
+
 abbrev pub given_of : MemShelf → List ℕ → ℕ
 given_of shelf name = option_map_or (λ (slot : Slot). slot.given) (slot_of shelf name) 0
 
 abbrev pub is_out_of : MemShelf → List ℕ → Bool
 is_out_of shelf name = option_map_or (λ (slot : Slot). is_none slot.disk) (slot_of shelf name) false
+
+abbrev pub kept_of : MemShelf → List ℕ → Option DiskMemory
+kept_of shelf name = option_map_or (λ (slot : Slot). slot.disk) (slot_of shelf name) None

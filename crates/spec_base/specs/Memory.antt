@@ -13,8 +13,3 @@ pub record SinkMemory : Type 0 where
   pub taken : List ℕ
   pub most : ℕ
   pub plan : Plan
-
--- a disk: its bytes
-pub record DiskMemory : Type 0 where
-  pub content : List ℕ
-  pub plan : Plan

@@ -1,8 +1,12 @@
--- What a call for one name of a shelf leaves as it was.
-use Rattle.std.specs.Prelude.{◌≡◌, ◌≢◌, ℕ, Bool, List}
+-- What the calls of a shelf do to its names.
+use Rattle.std.specs.Prelude.{◌≡◌, ◌≢◌, ℕ, List, [], Option, Some, None}
+use Rattle.spec_base.specs.Crash.{Only}
 
--- every other name is as before: its count, whether its disk is out, and the count that it was given with
-pub record SameElsewhere (faults_old faults_new : List ℕ → ℕ) (out_old out_new : List ℕ → Bool) (given_old given_new : List ℕ → ℕ) (name : List ℕ) : Type 0 where
-  pub faults : (other : List ℕ) → other ≢ name → faults_new other ≡ faults_old other
-  pub out : (other : List ℕ) → other ≢ name → out_new other ≡ out_old other
-  pub given : (other : List ℕ) → other ≢ name → given_new other ≡ given_old other
+-- every other name is as before
+abbrev pub SameBut : {T : Type 0} → List ℕ → (List ℕ → T) → (List ℕ → T) → Type 0
+SameBut name old new = (other : List ℕ) → other ≢ name → new other ≡ old other
+
+-- the disk that lay on the shelf; an empty one, also in every crash, where none did
+abbrev pub GivesKept : {D : Type 0} → (D → Option (List ℕ)) → (D → List ℕ → Type 0) → Option D → D → Type 0
+GivesKept seen may_leave None disk = (seen disk ≡ Some []) × Only [] (may_leave disk)
+GivesKept seen may_leave (Some kept) disk = disk ≡ kept

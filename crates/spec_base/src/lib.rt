@@ -8,6 +8,7 @@
 
 mod copying;
 mod disk;
+mod disk_call;
 mod mem_disk;
 mod mem_shelf;
 mod mem_sink;
@@ -25,6 +26,7 @@ mod stop;
 mod tests;
 
 pub use disk::Disk;
+pub use disk_call::DiskCall;
 pub use mem_disk::MemDisk;
 pub use mem_shelf::{DiskFail, MemShelf};
 pub use mem_sink::MemSink;

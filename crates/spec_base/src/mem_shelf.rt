@@ -1,4 +1,4 @@
-ghost use Rattle.std.specs.Prelude.{◌≡◌, ◌≢◌, ◌+◌, ◌-◌, ◌^◌, ℕ, List, Some, None, min, true, false, IfOk, IfSome, IsSome, is_none};
+ghost use Rattle.std.specs.Prelude.{◌≡◌, ◌≢◌, ◌+◌, ◌-◌, ◌^◌, ℕ, List, Some, None, min, true, false, IfOk, IfSome, IsSome, is_none, []};
 ghost use Rattle.spec_base.specs.declared.mem_shelf.MemShelf.{MemShelf as TheShelf};
 
 use crate::disk::Disk;
@@ -25,6 +25,8 @@ pub struct Slot {
     disk: Option<MemDisk>,
     /// How often it has failed, as far as it has come back.
     faults: u64,
+    /// How many of its last calls failed one after the other, as far as it has come back.
+    row: u8,
     /// The count of faults with which it was last given.
     given: u64,
 }
@@ -57,7 +59,9 @@ impl MemShelf {
     }
 
     /// An empty disk for a name.
-    fn fresh_disk(&self, name: &str) -> Result<MemDisk, OutOfMemory> {
+    fn fresh_disk(&self, name: &str) -> Result<MemDisk, OutOfMemory>
+        ensures { IfOk result (λ disk. disk.calls ≡ []) }
+    {
         let calls = calls_of(self.alloc, &self.fails, name.as_bytes())?;
         MemDisk::new(self.alloc, &calls)
     }
@@ -79,11 +83,12 @@ impl Slot {
     fn give(&mut self) -> MemDisk
         requires { IsSome self.old.disk }
         ensures disk { self.old.disk ≡ Some result }
-        ensures slot { self.new ≡ record { disk = None; faults = self.old.faults; given = result.plan.faults } }
+        ensures slot { self.new ≡ record { disk = None; faults = self.old.faults; row = 0; given = result.plan.faults } }
     {
         let Some(disk) = self.disk.take() else {
             unreachable!()
         };
+        self.row = 0;
         self.given = disk.fault_count();
         disk
     }
@@ -93,11 +98,13 @@ impl Slot {
         ensures { self.new ≡ record {
           disk = Some disk;
           faults = min (self.old.faults + (disk.plan.faults - self.old.given)) (2 ^ 64 - 1);
+          row = disk.row;
           given = self.old.given;
         } }
     {
         let more = disk.fault_count().saturating_sub(self.given);
         self.faults = self.faults.saturating_add(more);
+        self.row = disk.failures_in_a_row();
         self.disk = Some(disk);
     }
 }
@@ -105,13 +112,19 @@ impl Slot {
 impl Shelf for MemShelf {
     type D = MemDisk;
 
-    ghost use Rattle.spec_base.specs.MemShelf.{faults_of, given_of, is_out_of};
+    ghost use Rattle.spec_base.specs.MemShelf.{faults_of, row_of, given_of, is_out_of, kept_of};
 
     ghost faults = { faults_of };
 
     ghost is_out = { is_out_of };
 
     ghost given = { given_of };
+
+    ghost in_a_row = { row_of };
+
+    ghost tells = { λ _. true };
+
+    ghost kept = { kept_of };
 
     #[tactic(auto, using(std::proofs::lemmas::Map::Text::text_keys))]
     fn disk(&mut self, name: &str) -> Result<MemDisk, Stop> {
@@ -122,6 +135,7 @@ impl Shelf for MemShelf {
         let slot = Slot {
             disk: None,
             faults: 0,
+            row: 0,
             given: disk.fault_count(),
         };
         self.slots
