@@ -21,17 +21,36 @@ fn five(alloc: Global) -> Result<Body, BodyError> {
 fn answers_follow_the_log(rt: HostRuntime) -> Result<(), Fail> {
     let alloc = rt.alloc();
     let mut log = ShardLog::new(alloc);
-    assert_eq!(rt; log.append_from(0, 0, 0, five(alloc)?)?, Appended::Taken { local: 0 });
-    assert_eq!(rt; log.append_from(0, 0, 0, five(alloc)?)?, Appended::Duplicate { local: 0 });
-    assert_eq!(rt; log.append_from(0, 0, 2, five(alloc)?)?, Appended::Gap { expected: 1 });
-    assert_eq!(rt; log.append_from(1, 4, 4, Body::new(alloc, b"7")?)?, Appended::Taken { local: 1 });
+    assert_eq!(rt;
+        log.append_from(0, 0, 0, five(alloc)?)?,
+        Appended::Taken { local: 0 }
+    );
+    assert_eq!(rt;
+        log.append_from(0, 0, 0, five(alloc)?)?,
+        Appended::Duplicate { local: 0 }
+    );
+    assert_eq!(rt;
+        log.append_from(0, 0, 2, five(alloc)?)?,
+        Appended::Gap { expected: 1 }
+    );
+    assert_eq!(rt;
+        log.append_from(1, 4, 4, Body::new(alloc, b"7")?)?,
+        Appended::Taken { local: 1 }
+    );
     assert_eq!(rt; log.append_at(5, Record::Noop)?, Grown::Stays { len: 2 });
     assert_eq!(rt; log.next_of(1, 2), Some(5));
     assert_eq!(rt; log.next_of(1, 1), None);
     assert_eq!(rt; log.append_noop()?, 2);
     assert_eq!(rt; log.append_at(3, Record::Noop)?, Grown::Grown { len: 4 });
     assert_eq!(rt; log.len(), 4);
-    assert!(rt; log.get(1) == Some(&Record::Data { client: 1, number: 4, body: Body::new(alloc, b"7")? }));
+    assert!(rt;
+        log.get(1)
+            == Some(&Record::Data {
+                client: 1,
+                number: 4,
+                body: Body::new(alloc, b"7")?
+            })
+    );
     assert!(rt; log.get(4).is_none());
     Ok(())
 }
@@ -50,7 +69,10 @@ fn answers_name_the_first_local_and_the_last_number(rt: HostRuntime) -> Result<(
     ] {
         assert!(rt; client <= 5);
         assert!(rt; number <= LIMIT);
-        assert_eq!(rt; log.append_at(log.len(), data(client, number, five(alloc)?))?, Grown::Grown { len });
+        assert_eq!(rt;
+            log.append_at(log.len(), data(client, number, five(alloc)?))?,
+            Grown::Grown { len }
+        );
     }
     for (client, number, local) in [
         (0, 5, Some(0)),
@@ -61,7 +83,11 @@ fn answers_name_the_first_local_and_the_last_number(rt: HostRuntime) -> Result<(
         (2, 5, None),
     ] {
         assert!(rt; client <= 5);
-        assert_eq!(rt; log.local_of(client, number), local, "client {client}, number {number}");
+        assert_eq!(rt;
+            log.local_of(client, number),
+            local,
+            "client {client}, number {number}"
+        );
     }
     for (client, end, next) in [
         (0, 0, None),
@@ -77,14 +103,27 @@ fn answers_name_the_first_local_and_the_last_number(rt: HostRuntime) -> Result<(
         (5, 6, None),
     ] {
         assert!(rt; client <= 5);
-        assert_eq!(rt; log.next_of(client, end), next, "client {client}, end {end}");
+        assert_eq!(rt;
+            log.next_of(client, end),
+            next,
+            "client {client}, end {end}"
+        );
     }
     assert!(rt; log.len() < LIMIT);
-    assert_eq!(rt; log.append_from(0, 0, 3, five(alloc)?)?, Appended::Duplicate { local: 1 });
+    assert_eq!(rt;
+        log.append_from(0, 0, 3, five(alloc)?)?,
+        Appended::Duplicate { local: 1 }
+    );
     assert!(rt; log.len() < LIMIT);
-    assert_eq!(rt; log.append_from(0, 0, 6, five(alloc)?)?, Appended::Gap { expected: 5 });
+    assert_eq!(rt;
+        log.append_from(0, 0, 6, five(alloc)?)?,
+        Appended::Gap { expected: 5 }
+    );
     assert!(rt; log.len() < LIMIT);
-    assert_eq!(rt; log.append_from(0, 0, 5, five(alloc)?)?, Appended::Taken { local: 6 });
+    assert_eq!(rt;
+        log.append_from(0, 0, 5, five(alloc)?)?,
+        Appended::Taken { local: 6 }
+    );
     assert_eq!(rt; log.local_of(0, 5), Some(0));
     Ok(())
 }
@@ -106,12 +145,18 @@ fn many_appends_repeats_and_looks_take_no_time(rt: HostRuntime) -> Result<(), Fa
         let (client, number) = turn(local);
         let first = 10 * u64::from(client);
         assert!(rt; log.len() < LIMIT);
-        assert_eq!(rt; log.append_from(client, first, number, five(alloc)?)?, Appended::Taken { local });
+        assert_eq!(rt;
+            log.append_from(client, first, number, five(alloc)?)?,
+            Appended::Taken { local }
+        );
     }
     for local in 0..MANY {
         let (client, number) = turn(local);
         assert!(rt; log.len() < LIMIT);
-        assert_eq!(rt; log.append_from(client, 0, number, five(alloc)?)?, Appended::Duplicate { local });
+        assert_eq!(rt;
+            log.append_from(client, 0, number, five(alloc)?)?,
+            Appended::Duplicate { local }
+        );
     }
     for local in 0..MANY {
         let (client, number) = turn(local);
@@ -119,7 +164,10 @@ fn many_appends_repeats_and_looks_take_no_time(rt: HostRuntime) -> Result<(), Fa
         assert_eq!(rt; log.next_of(client, local + 1), Some(number + 1));
     }
     assert!(rt; log.len() < LIMIT);
-    assert_eq!(rt; log.append_from(0, 0, MANY, five(alloc)?)?, Appended::Gap { expected: 33_334 });
+    assert_eq!(rt;
+        log.append_from(0, 0, MANY, five(alloc)?)?,
+        Appended::Gap { expected: 33_334 }
+    );
     assert_eq!(rt; log.len(), MANY);
     Ok(())
 }

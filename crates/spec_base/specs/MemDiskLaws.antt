@@ -16,12 +16,16 @@ torn_whole at bytes old = record {
   where
     rest : List ℕ
     rest = drop (at + length bytes) old
+
     zeros : List ℕ
     zeros = replicate (at - length old) 0
+
     front : List ℕ
     front = take at old ++ zeros ++ bytes
+
     size : length front ≡ at + length bytes
     size = omega (arith, length-append (take at old ++ zeros) bytes, length-append (take at old) zeros, length-take at old, length-replicate {A = ℕ} (at - length old) 0)
+
     joined : take (min at (length old)) (overwritten at bytes old) ≡ take (min at (length old)) (take at old ++ (zeros ++ (bytes ++ rest)))
     joined = ap (take (min at (length old))) (append_assoc (take at old ++ zeros) bytes rest ∙ append_assoc (take at old) zeros (bytes ++ rest))
 

@@ -8,4 +8,4 @@ pub returns-clause-none_new : goal.returns-clause-none_new
 returns-clause-none_new c =
     let same : reverse c.self.inside.calls.items ≡ c.args.self.now.calls = ap (λ (d : DiskMemory). d.calls) c.self.view_is in
     none_new_to c.args.self.now.calls (reverse c.push.new.self.items)
-      (pushed c.self.inside.calls.items c.push.new.self.items c.args.self.now.calls Sync same c.in_ok-push.ensures.items)
+    (pushed c.self.inside.calls.items c.push.new.self.items c.args.self.now.calls Sync same c.in_ok-push.ensures.items)

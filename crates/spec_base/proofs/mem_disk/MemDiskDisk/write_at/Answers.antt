@@ -19,4 +19,4 @@ returns-clause-time c =
     let same : reverse c.self.inside.calls.items ≡ c.args.self.now.calls = ap (λ (d : DiskMemory). d.calls) c.self.view_is in
     let call = Write c.args.at c.args.bytes.now in
     elapses_to c.args.self.now.calls (reverse c.write_down.new.calls.items) call
-      (pushed c.self.inside.calls.items c.write_down.new.calls.items c.args.self.now.calls call same c.in_ok-write_down.ensures.calls)
+    (pushed c.self.inside.calls.items c.write_down.new.calls.items c.args.self.now.calls call same c.in_ok-write_down.ensures.calls)
