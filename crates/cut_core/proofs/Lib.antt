@@ -1,1 +1,4 @@
 pub mod WorkedRows
+pub mod Counts
+pub mod Kept
+pub mod Sound

@@ -1,6 +1,7 @@
-use Rattle.std.specs.Prelude.{ℕ, ◌+◌, not, if◌then◌else◌, List, [], ◌∷◌, ◌++◌, map, Option, Some, None, replicate}
+use Rattle.std.specs.Prelude.{ℕ, ◌+◌, ◌≤◌, not, if◌then◌else◌, List, [], ◌∷◌, ◌++◌, map, Option, Some, None, replicate}
 use Rattle.std.specs.List.{filter}
 use Rattle.quota_table.specs.declared.rows.Row.{Row}
+use Rattle.quota_table.specs.Rows.{IsTable}
 use Rattle.quota_table.specs.declared.entry.Entry.{Entry}
 use Rattle.quota_table.specs.declared.entry.Entry.TheVariants.{Nothing, Cut, Table, Remove}
 use Rattle.fix_ante.specs.declared.spots.Spot.{Spot}
@@ -71,3 +72,10 @@ applied_all a (entry ∷ entries) = applied_all (applied a entry) entries
 
 abbrev pub fold_of : Window → List Entry → Agreement
 fold_of first = applied_all (agreement_from first)
+
+-- an entry as it can be agreed on: a table has 1 to 1,024 rounds and the rows of a table
+abbrev pub IsValidEntry : Entry → Type 0
+IsValidEntry Nothing = Unit {0}
+IsValidEntry (Cut window round) = Unit {0}
+IsValidEntry (Table after rounds rows) = (1 ≤ rounds) × (rounds ≤ 1024) × IsTable rows
+IsValidEntry (Remove window shard) = Unit {0}
