@@ -10,7 +10,7 @@ use std::test::Fail;
 /// Appends and repeats of the large test.
 const MANY: u64 = 200_000;
 
-/// A log's greatest length for which a client's record may be offered, and one more than its greatest number.
+/// A log is shorter than this where a client's record is offered, and no record's number is above it.
 const LIMIT: u64 = 1 << 48;
 
 fn five(alloc: Global) -> Result<Body, BodyError> {
@@ -138,7 +138,7 @@ fn turn(local: u64) -> (u32, u64)
 }
 
 #[test]
-fn many_appends_repeats_and_looks_take_no_time(rt: HostRuntime) -> Result<(), Fail> {
+fn many_calls_end_in_time(rt: HostRuntime) -> Result<(), Fail> {
     let alloc = rt.alloc();
     let mut log = ShardLog::new(alloc);
     for local in 0..MANY {
