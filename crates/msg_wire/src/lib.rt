@@ -6,15 +6,20 @@
 #![tactic(auto)]
 
 mod config;
+mod errors;
 mod event;
 mod input;
 mod item;
 mod mark;
 mod message;
+mod numbers;
+mod parts;
 mod plan;
 mod step;
+mod writing;
 
 pub use config::{Config, Homes};
+pub use errors::WireError;
 pub use event::{Command, Event};
 pub use input::{Input, Inputs};
 pub use item::{Item, Items};
@@ -22,3 +27,4 @@ pub use mark::{Mark, Marks};
 pub use message::{Message, Messages, What};
 pub use plan::{Plan, PlanLine, PlanLines};
 pub use step::Step;
+pub use writing::{encode, encode_items};

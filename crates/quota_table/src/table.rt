@@ -57,6 +57,14 @@ impl PartialEq for Table {
 }
 
 impl Table {
+    /// The table of rows that are known to be one. It takes no memory.
+    pub fn of(rows: ArrayVec<Row, 6>) -> Table
+        requires { IsTable rows.items }
+        ensures { result ≡ rows.items }
+    {
+        Table { rows }
+    }
+
     /// The rows, in order.
     pub fn rows(&self) -> &[Row]
         ensures rows { result.now ≡ self.now }

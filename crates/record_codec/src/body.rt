@@ -64,7 +64,7 @@ impl Body {
     }
 
     /// The body of at most 1,024 bytes.
-    pub(crate) fn of(alloc: Global, bytes: &[u8]) -> Result<Body, OutOfMemory>
+    pub fn of(alloc: Global, bytes: &[u8]) -> Result<Body, OutOfMemory>
         requires { length bytes.now ≤ 1024 }
         ensures { IfOk result (λ body. body ≡ bytes.now) }
     {
