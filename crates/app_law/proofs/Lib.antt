@@ -1,3 +1,5 @@
 pub mod Folds
+pub mod KvLemmas
 pub mod OrderLemmas
+pub mod PositionLemmas
 pub mod WordLemmas

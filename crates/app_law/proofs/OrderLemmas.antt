@@ -1,5 +1,6 @@
 use Rattle.std.proofs.Common.{◌≡◌, ℕ, List, ◌∷◌, None, refl}
 use Rattle.app_law.specs.Banks.{bank_order_of}
+use Rattle.app_law.specs.KvOrders.{kv_order_of}
 use Rattle.app_law.specs.Words.{words}
 use Rattle.app_law.proofs.WordLemmas.{words-some}
 
@@ -7,4 +8,8 @@ use Rattle.app_law.proofs.WordLemmas.{words-some}
 pub bank_order_of-many : (a b c d more : List ℕ) → bank_order_of (a ∷ b ∷ c ∷ d ∷ words more) ≡ None
 bank_order_of-many a b c d more = rw ((words-some more).2) refl
 
-pub ruleset too_many = bank_order_of-many
+-- and more than three nothing of the store
+pub kv_order_of-many : (a b c more : List ℕ) → kv_order_of (a ∷ b ∷ c ∷ words more) ≡ None
+kv_order_of-many a b c more = rw ((words-some more).2) refl
+
+pub ruleset too_many = (bank_order_of-many, kv_order_of-many)

@@ -1,6 +1,7 @@
-use Rattle.std.specs.Prelude.{ℕ, List, replicate}
+use Rattle.std.specs.Prelude.{ℕ, List, replicate, ◌≡◌, refl, []}
 use Rattle.std.specs.FinMap as entries
 use Rattle.record_codec.specs.declared.record.Record.{Record}
+use Rattle.record_codec.specs.declared.record.Record.TheVariants.{Noop}
 use Rattle.record_codec.specs.declared.app_kind.AppKind.{AppKind}
 use Rattle.record_codec.specs.declared.app_kind.AppKind.TheVariants as kinds
 use Rattle.app_law.specs.declared.any_app.AnyApp.{AnyApp}
@@ -38,3 +39,14 @@ any_restored (undos.Tally before) (Tally _) = Tally before
 any_restored (undos.Bank before) (Bank _) = Bank before
 any_restored (undos.Kv undo) (Kv kv) = Kv (kv_restored undo kv)
 any_restored _ app = app
+
+-- a record that fills a place leaves each of them, and gives nothing
+pub any_next-noop : (app : AnyApp) → any_next app Noop ≡ app
+any_next-noop (Tally t) = refl
+any_next-noop (Bank b) = refl
+any_next-noop (Kv kv) = refl
+
+pub any_output-noop : (app : AnyApp) → any_output app Noop ≡ []
+any_output-noop (Tally t) = refl
+any_output-noop (Bank b) = refl
+any_output-noop (Kv kv) = refl

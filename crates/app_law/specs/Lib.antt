@@ -2,6 +2,8 @@ pub mod AnyApps
 pub mod Banks
 pub mod Decimals
 pub mod Folds
+pub mod KvEntries
+pub mod KvOrders
 pub mod Kvs
 pub mod KvStates
 pub mod Positions

@@ -13,6 +13,7 @@ mod bank;
 mod bank_order;
 mod decimal;
 mod kv;
+mod kv_order;
 mod tally;
 #[cfg(test)]
 mod tests;

@@ -1,4 +1,4 @@
-use crate::{App, Bank, Tally};
+use crate::{AnyApp, App, Bank, Kv, Tally};
 use record_codec::{AppKind, Body, Record};
 use std::alloc::Global;
 use std::process::Abort;
@@ -126,4 +126,86 @@ fn bank_at_its_bounds(rt: HostRuntime) -> Result<(), Fail> {
     ];
     let shown = "1000000000000000 1000000000000000 999999999999 5 0 0 0 999000000000001";
     plays(&rt, rt.alloc(), &mut rich, &rows, shown)
+}
+
+#[test]
+fn kv(rt: HostRuntime) -> Result<(), Fail> {
+    let mut fresh = Kv::fresh(AppKind::Kv);
+    assert_eq!(rt; fresh.show().as_slice(), b"keys 0".as_slice());
+    let rows = [
+        ("set a 1", "ok\n"),
+        ("get a", "1\n"),
+        ("del a", "ok\n"),
+        ("get a", "-\n"),
+    ];
+    plays(&rt, rt.alloc(), &mut fresh, &rows, "keys 0")?;
+    let forms = [
+        ("", "?\n"),
+        ("get", "?\n"),
+        ("set a", "?\n"),
+        ("set a b c", "?\n"),
+        ("get a b", "?\n"),
+        ("set  a b", "?\n"),
+        ("set a b ", "?\n"),
+        ("put a b", "?\n"),
+        ("get 123456789", "?\n"),
+        ("get caf\u{e9}", "?\n"),
+        ("set a 123456789012345678901234567890123", "?\n"),
+        ("set 12345678 12345678901234567890123456789012", "ok\n"),
+        ("get 12345678", "12345678901234567890123456789012\n"),
+        ("set ! ~", "ok\n"),
+        ("set ! x", "ok\n"),
+        ("get !", "x\n"),
+        ("del ~", "-\n"),
+    ];
+    plays(&rt, rt.alloc(), &mut fresh, &forms, "keys 2")
+}
+
+#[test]
+fn kv_at_its_bounds(rt: HostRuntime) -> Result<(), Fail> {
+    let mut full = Kv::fresh(AppKind::Kv);
+    for letter in b"ABCDEFGHIJKLMNOPQRSTUVWXYZ123456" {
+        let body = Body::new(rt.alloc(), &[b's', b'e', b't', b' ', *letter, b' ', b'v'])?;
+        let rec = Record::Data {
+            client: 0,
+            number: 0,
+            body,
+        };
+        let (_, given) = full.apply(&rec);
+        assert_eq!(rt; given.as_slice(), b"ok\n".as_slice());
+    }
+    let rows = [
+        ("set zz 1", "full\n"),
+        ("set A 2", "ok\n"),
+        ("get A", "2\n"),
+        ("del B", "ok\n"),
+        ("set zz 1", "ok\n"),
+        ("set yy 1", "full\n"),
+        ("del yy", "-\n"),
+    ];
+    plays(&rt, rt.alloc(), &mut full, &rows, "keys 32")?;
+    let again = [("get A", "v\n"), ("get B", "v\n"), ("get zz", "-\n")];
+    plays(&rt, rt.alloc(), &mut full, &again, "keys 32")
+}
+
+#[test]
+fn any_app(rt: HostRuntime) -> Result<(), Fail> {
+    let mut tally = AnyApp::fresh(AppKind::Tally);
+    plays(
+        &rt,
+        rt.alloc(),
+        &mut tally,
+        &[("5", "5\n")],
+        "sum 5 count 1",
+    )?;
+    let mut bank = AnyApp::fresh(AppKind::Bank);
+    plays(
+        &rt,
+        rt.alloc(),
+        &mut bank,
+        &[("d 1 5", "ok\n")],
+        "0 5 0 0 0 0 0 0",
+    )?;
+    let mut kv = AnyApp::fresh(AppKind::Kv);
+    plays(&rt, rt.alloc(), &mut kv, &[("set a 1", "ok\n")], "keys 1")
 }
