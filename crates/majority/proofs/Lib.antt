@@ -16,3 +16,4 @@ pub mod Promises
 pub mod Schedules
 pub mod Decided
 pub mod Telling
+pub mod FewJournals

@@ -95,10 +95,10 @@ impl<V: Clone> Proposer<V> {
         self.acceptances.add(from);
         let have = self.acceptances.len();
         let n = usize::from(self.n);
-        if 2 * have <= n {
-            AcceptedAnswer::Waiting { have: have as u8 }
-        } else {
+        if 2 * have > n {
             AcceptedAnswer::Chosen
+        } else {
+            AcceptedAnswer::Waiting { have: have as u8 }
         }
     }
 }
