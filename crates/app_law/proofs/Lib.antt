@@ -1,3 +1,4 @@
+pub mod EndLemmas
 pub mod Folds
 pub mod KvLemmas
 pub mod OrderLemmas
