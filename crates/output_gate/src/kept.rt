@@ -1,3 +1,5 @@
+ghost use Rattle.std.specs.Prelude.{◌≡◌, ◌<◌, ◌++◌, ◌∷◌, ◌≤◌, [], length};
+
 use arrayvec::ArrayVec;
 use record_codec::Output;
 use std::marker::Model;
@@ -34,4 +36,30 @@ impl Model for Kept {
     ghost Value = { List KeptOut };
 
     ghost view = { λ k. k.items.items };
+}
+
+impl Kept {
+    /// No output yet.
+    pub fn new() -> Kept
+        ensures { result ≡ [] }
+    {
+        Kept {
+            items: ArrayVec::new(),
+        }
+    }
+
+    /// The outputs, in order.
+    pub fn as_slice(&self) -> &[KeptOut]
+        ensures outputs { result.now ≡ self.now }
+        ensures within { length self.now ≤ 3 }
+    {
+        self.items.as_slice()
+    }
+
+    pub(crate) fn push(&mut self, kept: KeptOut)
+        requires { length self.old < 3 }
+        ensures { self.new ≡ self.old ++ kept ∷ [] }
+    {
+        self.items.push(kept);
+    }
 }
