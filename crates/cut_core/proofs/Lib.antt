@@ -2,3 +2,5 @@ pub mod WorkedRows
 pub mod Counts
 pub mod Kept
 pub mod Sound
+pub mod Maps
+pub mod AgreeingLemmas

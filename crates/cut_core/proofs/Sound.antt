@@ -16,7 +16,7 @@ use Rattle.cut_core.proofs.Kept.{IsSound, MayBeGrant, IsSound-first, IsSound-rou
 
 -- ---- what it means that there is no fault
 
-no_fault : (b : Bool) (r : Reason) (later : Option Reason) → (if b then Some r else later) ≡ None → (b ≡ false) × (later ≡ None)
+pub no_fault : (b : Bool) (r : Reason) (later : Option Reason) → (if b then Some r else later) ≡ None → (b ≡ false) × (later ≡ None)
 no_fault true r later e = absurd (cc)
 no_fault false r later e = (refl, e)
 

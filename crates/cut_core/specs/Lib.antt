@@ -3,3 +3,4 @@ pub mod Reasons
 pub mod Fold
 pub mod Effects
 pub mod Map
+pub mod Agreeing

@@ -5,5 +5,6 @@
 #![tactic(auto)]
 
 mod effects;
+pub mod laws;
 
 pub use effects::{Effect, Reason};
