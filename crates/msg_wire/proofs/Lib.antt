@@ -1,2 +1,5 @@
 pub mod PartLaws
 pub mod RowLaws
+pub mod EntryLaws
+pub mod MessageLaws
+pub mod ItemLaws

@@ -140,7 +140,7 @@ rows_took (suc count) earlier bytes at x fits d e =
       distinct = o.distinct;
     }
 
-abbrev counted_rows : List Row → List ℕ
+abbrev pub counted_rows : List Row → List ℕ
 counted_rows rows = length rows ∷ rows_spelling rows
 
 pub rows_make_a_table : (count : ℕ) (bytes : List ℕ) (at : ℕ) (x : List Row × ℕ) → IsBytes bytes → 1 ≤ count → count ≤ 6 → rows_at count [] bytes at ≡ Ok x → IsTable x.0

@@ -3,6 +3,7 @@
 //! - [`Config`], [`Plan`], [`Input`]: a cluster, a threaded run of it, one input of a script.
 //! - [`Message`], [`What`], [`Item`]: what a node sends, and what its vault keeps.
 //! - [`Event`], [`Command`], [`Mark`], [`Step`]: what a step takes, and what it gives.
+//! - [`encode`], [`decode`], [`encode_items`], [`decode_items`]: messages and items as bytes.
 #![tactic(auto)]
 
 mod config;
@@ -10,8 +11,11 @@ mod errors;
 mod event;
 mod input;
 mod item;
+mod item_reading;
+pub mod laws;
 mod mark;
 mod message;
+mod message_reading;
 mod numbers;
 mod parts;
 mod plan;
@@ -23,8 +27,10 @@ pub use errors::WireError;
 pub use event::{Command, Event};
 pub use input::{Input, Inputs};
 pub use item::{Item, Items};
+pub use item_reading::decode_items;
 pub use mark::{Mark, Marks};
 pub use message::{Message, Messages, What};
+pub use message_reading::decode;
 pub use plan::{Plan, PlanLine, PlanLines};
 pub use step::Step;
 pub use writing::{encode, encode_items};
