@@ -1,7 +1,7 @@
 use Rattle.std.specs.Prelude.{ℕ, ◌+◌, Bool, false, ◌||◌, nat_lt, nat_le, Option, Some, None, is_some, List, [], filter, if◌then◌else◌}
 use Rattle.std.specs.Ordering.{nat_cmp, eq_by_cmp}
 use Rattle.std.specs.BTreeMap.{insert_entry}
-use Rattle.std.specs.Map.{lookup}
+use Rattle.std.specs.Map.{lookup, remove_entry}
 use Rattle.record_codec.specs.declared.record.Record.{Record}
 use Rattle.spec_delivery.specs.declared.put.Put.{Put}
 use Rattle.spec_delivery.specs.declared.put.Put.TheVariants.{Old, Far, Again, Kept}
@@ -40,10 +40,10 @@ after_put Kept lane local rec =
     record { floor = lane.floor; end = lane.end; held = insert_entry nat_cmp lane.held local rec }
 after_put _ lane local rec = lane
 
--- one more local is confirmed, and what is below the floor is dropped
+-- one more local is confirmed, and its record is dropped: nothing is held below the floor
 abbrev pub raised : LaneState → LaneState
 raised lane =
-    record { floor = lane.floor + 1; end = lane.end; held = filter (λ e. nat_lt lane.floor e.0) lane.held }
+    record { floor = lane.floor + 1; end = lane.end; held = remove_entry (eq_by_cmp nat_cmp lane.floor) lane.held }
 
 -- the shard ends there, and what is at or past the end is dropped
 abbrev pub closed : LaneState → ℕ → LaneState

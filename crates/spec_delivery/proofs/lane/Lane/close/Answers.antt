@@ -1,0 +1,10 @@
+use Rattle.std.proofs.Common.{rules, ◌≡◌, nat_lt, filter, ap}
+use Rattle.std.proofs.lemmas.Map.Made.{filter_same_pairs}
+use Rattle.spec_delivery.specs.Lanes.{closed}
+use Rattle.spec_delivery.proofs.lane.Lane.close.Goals as goal
+
+pub returns : goal.returns
+returns c =
+    let kept : c.retain.new.self.entries ≡ filter (λ e. nat_lt e.0 c.args.end) c.self.inside.held.entries =
+    filter_same_pairs _ (λ e. nat_lt e.0 c.args.end) _ (λ k v b w f t. search rules) _ _ c.retain.ensures.filtered in
+    rw kept (ap (λ l. closed l c.args.end) c.self.view_is)
