@@ -7,6 +7,8 @@
 mod buffer;
 mod lane;
 mod put;
+#[cfg(test)]
+mod tests;
 
 pub use buffer::Buffer;
 pub use lane::REACH;
