@@ -1,5 +1,4 @@
-use Rattle.std.proofs.Common.{◌≡◌, ℕ, zero, suc, ◌+◌, ◌<◌, ◌≤◌, ◌==◌, Bool, true, false, not, List, [], ◌∷◌, ◌++◌, length, Option, Some, None, refl, sym, ap, ◌∙◌, inl, inr, arith, append-nil, length-append}
-use Rattle.std.specs.Prelude.{nat_lt, if◌then◌else◌}
+use Rattle.std.proofs.Common.{◌≡◌, ℕ, ◌+◌, ◌<◌, ◌≤◌, ◌==◌, true, not, List, [], ◌∷◌, ◌++◌, length, Option, Some, None, refl, sym, ap, ◌∙◌, inl, inr, arith, append-nil, length-append}
 use Rattle.std.specs.List.{slice_get, AllByRecursion}
 use Rattle.std.proofs.lemmas.Bool.{cases_Bool, cond-true, cond-false, eqb-true, both_ways, not-false}
 use Rattle.std.proofs.lemmas.Option.{slice_get_within, slice_get_cases}
@@ -13,7 +12,7 @@ use Rattle.cut_core.specs.declared.effects.Reason.{Reason}
 use Rattle.cut_core.specs.declared.effects.Reason.TheVariants.{WrongWindow, WrongRound, NoGrant, NotARow}
 use Rattle.cut_core.specs.Agreements.{Agreement, is_last_round}
 use Rattle.cut_core.specs.Reasons.{grant_fault, granted_fault, fault_of}
-use Rattle.cut_core.specs.Fold.{with_round, opened, open_granted, after_cut, after_entry, unless_void, applied, applied_all, IsValidEntry}
+use Rattle.cut_core.specs.Fold.{with_round, open_granted, after_cut, after_entry, unless_void, applied, applied_all, IsValidEntry}
 use Rattle.cut_core.specs.Effects.{effect_where_fit, void_or, effect_of}
 use Rattle.cut_core.specs.Map.{map_of, mapped, located}
 use Rattle.cut_core.specs.Agreeing.{IsBelowFirst, IsBelowFirsts}

@@ -1,16 +1,16 @@
-use Rattle.std.proofs.Common.{◌≡◌, ℕ, zero, ◌+◌, ◌*◌, ◌<◌, ◌==◌, ◌||◌, Bool, true, false, not, List, [], ◌∷◌, ◌++◌, length, map, Option, Some, None, refl, sym, ap, ◌∙◌, inl, inr, arith, append-nil, length-append}
+use Rattle.std.proofs.Common.{◌≡◌, ℕ, ◌+◌, ◌*◌, ◌==◌, ◌||◌, Bool, true, false, List, [], ◌∷◌, ◌++◌, length, map, refl, sym, ap, ◌∙◌, inl, inr, arith, append-nil, length-append}
 use Rattle.std.specs.List.{list_any, filter}
-use Rattle.std.proofs.lemmas.Bool.{cases_Bool, cond-true, cond-false, or_parts, or_left, or_right, or_from, not_from_false, not_from_true, both_ways}
+use Rattle.std.proofs.lemmas.Bool.{cases_Bool, cond-true, cond-false, or_left, or_right, or_from, both_ways}
 use Rattle.std.proofs.lemmas.List.Folds.{list_any-append}
-use Rattle.quota_table.specs.Rows.{is_distinct, has_shard}
+use Rattle.quota_table.specs.Rows.{is_distinct}
 use Rattle.fix_ante.specs.declared.spots.Spot.{Spot}
 use Rattle.fix_ante.specs.declared.spots.Owner.{Owner}
-use Rattle.fix_ante.specs.Windows.{Window, rows_of, has_row, start_after}
-use Rattle.fix_ante.specs.Layout.{round_of, rounds_from}
+use Rattle.fix_ante.specs.Windows.{rows_of, has_row, start_after}
+use Rattle.fix_ante.specs.Layout.{rounds_from}
 use Rattle.fix_ante.specs.Locals.{locals_of, numbers_from, quota_of}
 use Rattle.fix_ante.proofs.Successors.{has_row-rows_of}
 use Rattle.fix_ante.proofs.LocalLemmas.{length-numbers_from, numbers_from-add, locals_of-append, locals_of-rounds_from, absent_row}
-use Rattle.cut_core.specs.Agreements.{Agreement, Gone, count_of}
+use Rattle.cut_core.specs.Agreements.{Gone, count_of}
 
 -- a shard that is no row has no positions in a round
 pub quota_of-absent : (spots : List Spot) (shard : ℕ) → has_row shard spots ≡ false → quota_of spots shard ≡ 0

@@ -1,25 +1,20 @@
-use Rattle.std.proofs.Common.{◌≡◌, ◌≢◌, ℕ, zero, suc, ◌+◌, ◌-◌, ◌*◌, ◌^◌, ◌<◌, ◌≤◌, ◌==◌, ◌||◌, Bool, true, false, not, List, [], ◌∷◌, ◌++◌, length, map, Option, Some, None, refl, sym, ap, ◌∙◌, subst, inl, inr, arith, add-zero, append-nil, length-append}
-use Rattle.std.specs.Prelude.{nat_lt, if◌then◌else◌}
+use Rattle.std.proofs.Common.{◌≡◌, ℕ, ◌+◌, ◌*◌, ◌<◌, ◌≤◌, ◌==◌, true, false, not, List, [], ◌∷◌, length, Option, Some, None, refl, sym, ap, ◌∙◌, inl, inr, arith, add-zero, length-append}
 use Rattle.std.specs.List.{list_any}
-use Rattle.std.proofs.lemmas.Bool.{cases_Bool, cond-true, cond-false, eqb-true, eqb-false, ltb-true, eq-eqb, or_parts, or_left, or_right, or_from, not-true, not-false, not_from_false, not_from_true, both_ways, true_from_ne_false}
+use Rattle.std.proofs.lemmas.Bool.{cases_Bool, eqb-true, or_parts, or_from, not_from_false, not_from_true, both_ways}
 use Rattle.std.proofs.lemmas.Nat.{mul-le}
 use Rattle.quota_table.specs.declared.rows.Row.{Row}
-use Rattle.quota_table.specs.declared.entry.Entry.{Entry}
-use Rattle.quota_table.specs.declared.entry.Entry.TheVariants.{Nothing, Cut, Table, Remove}
-use Rattle.quota_table.specs.Rows.{IsTable, is_distinct, has_shard}
+use Rattle.quota_table.specs.Rows.{IsTable, has_shard}
 use Rattle.quota_table.proofs.TableLemmas.{quotas_of-table}
 use Rattle.fix_ante.specs.declared.spots.Spot.{Spot}
-use Rattle.fix_ante.specs.Windows.{Window, IsWindow, rows_of, has_row, width_of, end_of, spots_from, start_after, first_of, next_of, spots_without, without_of}
-use Rattle.fix_ante.specs.Layout.{round_of, rounds_from}
+use Rattle.fix_ante.specs.Windows.{Window, IsWindow, rows_of, has_row, width_of, end_of, spots_from, start_after, first_of, spots_without}
+use Rattle.fix_ante.specs.Layout.{round_of}
 use Rattle.fix_ante.specs.Locals.{locals_of, numbers_from, quota_of}
 use Rattle.fix_ante.proofs.WindowLemmas.{rows_of-spots_from, IsWindow-first_of}
 use Rattle.fix_ante.proofs.LayoutLemmas.{length-round_of}
 use Rattle.fix_ante.proofs.Successors.{has_row-rows_of, left-spots_without, absent-spots_without, IsWindow-next_of, IsWindow-without_of}
 use Rattle.fix_ante.proofs.LocalLemmas.{length-numbers_from, locals_of-append, locals_of-round_of, start_after-add, start_after-spots_from, start_after-spots_without}
-use Rattle.cut_core.specs.declared.effects.Reason.{Reason}
-use Rattle.cut_core.specs.Agreements.{Agreement, Gone, agreement_from, count_of, is_gone, is_last_round}
-use Rattle.cut_core.specs.Fold.{with_round, dropped_rows, opened, after_cut, after_table, after_remove}
-use Rattle.cut_core.specs.Map.{gone_end}
+use Rattle.cut_core.specs.Agreements.{Agreement, Gone, agreement_from, count_of, is_gone}
+use Rattle.cut_core.specs.Fold.{with_round, dropped_rows, opened, after_table, after_remove}
 use Rattle.cut_core.proofs.Counts.{quota_of-absent, start_after-absent, dense-more, dense-none, gone-append, kept_row, undropped_row}
 
 -- a granted window follows all rounds of the current one, and no shard of it is gone
@@ -45,7 +40,7 @@ pub record IsSound (a : Agreement) : Type 0 where
   pub reach : a.current.base ≤ 393216 * a.slots
 
 -- a gone shard is no row
-gone-row : (a : Agreement) → ((shard : ℕ) → has_row shard a.current.spots ≡ true → is_gone a shard ≡ false) → (shard : ℕ) → is_gone a shard ≡ true → has_row shard a.current.spots ≡ false
+pub gone-row : (a : Agreement) → ((shard : ℕ) → has_row shard a.current.spots ≡ true → is_gone a shard ≡ false) → (shard : ℕ) → is_gone a shard ≡ true → has_row shard a.current.spots ≡ false
 gone-row a rows shard gone =
     elim (cases_Bool (has_row shard a.current.spots)) [
       | inl row ↦ absurd (both_ways _ (rows shard row) gone)

@@ -4,3 +4,4 @@ pub mod Kept
 pub mod Sound
 pub mod Maps
 pub mod AgreeingLemmas
+pub mod Dense

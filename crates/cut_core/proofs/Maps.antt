@@ -1,21 +1,17 @@
-use Rattle.std.proofs.Common.{◌≡◌, ℕ, zero, suc, ◌+◌, ◌-◌, ◌*◌, ◌<◌, ◌≤◌, ◌==◌, Bool, true, false, not, List, [], ◌∷◌, ◌++◌, length, Option, Some, None, refl, sym, ap, ◌∙◌, subst, inl, inr, arith, add-one, append-nil, append_assoc, length-append}
-use Rattle.std.specs.Prelude.{nat_lt, if◌then◌else◌}
-use Rattle.std.specs.List.{slice_get, AllByRecursion}
-use Rattle.std.proofs.lemmas.Bool.{cases_Bool, cases_lt, cond-true, cond-false, eqb-true, eqb-false, ltb-true, not-false, both_ways}
+use Rattle.std.proofs.Common.{◌≡◌, ℕ, zero, suc, ◌+◌, ◌-◌, ◌*◌, ◌<◌, ◌≤◌, true, List, [], ◌++◌, length, Some, None, refl, sym, ap, ◌∙◌, inl, inr, arith, add-one, append-nil, append_assoc}
+use Rattle.std.specs.List.{slice_get}
+use Rattle.std.proofs.lemmas.Bool.{cases_lt}
 use Rattle.std.proofs.lemmas.Nat.{mul-le}
-use Rattle.quota_table.specs.declared.entry.Entry.{Entry}
-use Rattle.quota_table.specs.declared.entry.Entry.TheVariants.{Nothing, Cut, Table, Remove}
-use Rattle.quota_table.specs.Tables.{quotas_of}
 use Rattle.fix_ante.specs.declared.spots.Owner.{Owner}
-use Rattle.fix_ante.specs.Windows.{Window, IsWindow, rows_of, has_row, width_of, next_of, spots_without, without_of}
+use Rattle.fix_ante.specs.Windows.{Window, has_row, width_of}
 use Rattle.fix_ante.specs.Layout.{round_of, rounds_from, layout_of}
 use Rattle.fix_ante.specs.Positions.{owner_among}
 use Rattle.fix_ante.specs.Moves.{quotas_before, first_failed_of}
 use Rattle.fix_ante.proofs.Entries.{slice_get-append_left, slice_get-append_right}
 use Rattle.fix_ante.proofs.LayoutLemmas.{length-rounds_from, slice_get-rounds_from}
 use Rattle.fix_ante.proofs.MoveLemmas.{quotas_before-le, owner_among-before, owner_among-own}
-use Rattle.cut_core.specs.Agreements.{Agreement, is_last_round}
-use Rattle.cut_core.specs.Fold.{with_round, opened, after_table, after_remove}
+use Rattle.cut_core.specs.Agreements.{Agreement}
+use Rattle.cut_core.specs.Fold.{with_round, opened, after_remove}
 use Rattle.cut_core.specs.Map.{rest_of, granted_layout, map_of, mapped}
 use Rattle.cut_core.proofs.Kept.{IsSound}
 

@@ -1,4 +1,4 @@
-use Rattle.std.proofs.Common.{◌≡◌, ℕ, zero, suc, ◌+◌, ◌<◌, ◌≤◌, ◌==◌, ◌||◌, Bool, true, false, not, List, [], ◌∷◌, length, Option, Some, None, refl, sym, ap, ◌∙◌, subst, inl, inr, arith}
+use Rattle.std.proofs.Common.{◌≡◌, ℕ, ◌+◌, ◌<◌, ◌≤◌, ◌==◌, ◌||◌, Bool, true, false, not, List, [], ◌∷◌, length, Option, Some, None, refl, sym, ap, ◌∙◌, subst, inl, inr, arith}
 use Rattle.std.specs.Prelude.{nat_lt, if◌then◌else◌}
 use Rattle.std.specs.List.{AllByRecursion}
 use Rattle.std.proofs.lemmas.Bool.{cases_Bool, cond-true, cond-false, eqb-true, eqb-false, ltb-true, not-false, both_ways, true≢false}
@@ -11,7 +11,7 @@ use Rattle.cut_core.specs.declared.effects.Reason.{Reason}
 use Rattle.cut_core.specs.declared.effects.Reason.TheVariants.{WrongWindow, WrongRound, NoGrant, NotARow, LastShard}
 use Rattle.cut_core.specs.Agreements.{Agreement, agreement_from, is_gone, gone_row, is_last_round}
 use Rattle.cut_core.specs.Reasons.{grant_fault, gone_fault, granted_fault, fault_of}
-use Rattle.cut_core.specs.Fold.{with_round, open_granted, after_cut, after_table, after_remove, after_entry, unless_void, applied, applied_all, fold_of, IsValidEntry}
+use Rattle.cut_core.specs.Fold.{with_round, open_granted, after_cut, after_entry, unless_void, applied, applied_all, fold_of, IsValidEntry}
 use Rattle.cut_core.proofs.Kept.{IsSound, MayBeGrant, IsSound-first, IsSound-round, IsSound-opened, IsSound-table, IsSound-remove, IsSound-passed}
 
 -- ---- what it means that there is no fault

@@ -1,4 +1,4 @@
-use Rattle.std.proofs.Common.{◌+◌, arith}
+use Rattle.std.proofs.Common.{arith}
 use Rattle.fix_ante.specs.Windows.{first_of}
 use Rattle.cut_core.specs.Agreements.{agreement_from}
 use Rattle.cut_core.specs.Fold.{fold_of}
