@@ -6,7 +6,8 @@ use Rattle.std.proofs.lemmas.List.Elements.{All-from_recursion, All-push, All-he
 use Rattle.record_codec.specs.declared.record.Record.{Record}
 use Rattle.record_codec.specs.declared.record.Record.TheVariants.{Data, Noop}
 use Rattle.shard_log.specs.declared.index.Place.{Place}
-use Rattle.shard_log.specs.Records.{IsWithin, number_by}
+use Rattle.record_codec.specs.Records.{IsValidRecord}
+use Rattle.shard_log.specs.Records.{number_by}
 use Rattle.shard_log.specs.Places.{place_by, places_from, places_of, last_below, first_with}
 use Rattle.shard_log.specs.Indexed.{IsIndexed}
 use Rattle.shard_log.proofs.PlaceLemmas.{option_or-none, cons_option-nil}
@@ -80,20 +81,20 @@ last_below-places_from client end at (r ∷ rest) =
 pub last_below-places_of : (client end : ℕ) (log : List Record) → last_below end (places_of client log) ≡ last_of client (take end log)
 last_below-places_of client end log = last_below-places_from client end 0 log ∙ ap (λ n. last_of client (take n log)) (let whole : end - 0 ≡ end = omega arith in whole)
 
--- numbers of records within the limits are at most 2^48
-number_by-within : (client : ℕ) (r : Record) → IsWithin r → IfSome (number_by client r) (λ n. n ≤ 2 ^ 48)
-number_by-within client Noop h = tt
-number_by-within client (Data owner own body) h =
+-- numbers of valid records are at most 2^48
+number_by-valid : (client : ℕ) (r : Record) → IsValidRecord r → IfSome (number_by client r) (λ n. n ≤ 2 ^ 48)
+number_by-valid client Noop h = tt
+number_by-valid client (Data owner own body) h =
     elim (owner == client) as (λ mine. IfSome (cond mine (Some own) None) (λ n. n ≤ 2 ^ 48)) [ true ↦ h.1 | false ↦ tt ]
 
-option_or-within : (a b : Option ℕ) → IfSome a (λ n. n ≤ 2 ^ 48) → IfSome b (λ n. n ≤ 2 ^ 48) → IfSome (option_or a b) (λ n. n ≤ 2 ^ 48)
-option_or-within None b h k = k
-option_or-within (Some x) b h k = h
+option_or-small : (a b : Option ℕ) → IfSome a (λ n. n ≤ 2 ^ 48) → IfSome b (λ n. n ≤ 2 ^ 48) → IfSome (option_or a b) (λ n. n ≤ 2 ^ 48)
+option_or-small None b h k = k
+option_or-small (Some x) b h k = h
 
-pub last_of-within : (client : ℕ) (log : List Record) → All IsWithin log → IfSome (last_of client log) (λ n. n ≤ 2 ^ 48)
-last_of-within client [] h = tt
-last_of-within client (r ∷ rest) h =
-    option_or-within (last_of client rest) (number_by client r) (last_of-within client rest (All-tail IsWithin r rest h)) (number_by-within client r (All-head IsWithin r rest h))
+pub last_of-valid : (client : ℕ) (log : List Record) → All IsValidRecord log → IfSome (last_of client log) (λ n. n ≤ 2 ^ 48)
+last_of-valid client [] h = tt
+last_of-valid client (r ∷ rest) h =
+    option_or-small (last_of client rest) (number_by client r) (last_of-valid client rest (All-tail IsValidRecord r rest h)) (number_by-valid client r (All-head IsValidRecord r rest h))
 
 cons_option-append : {X : Type 0} (o : Option X) (xs ys : List X) → cons_option o (xs ++ ys) ≡ cons_option o xs ++ ys
 cons_option-append None xs ys = refl
@@ -124,11 +125,11 @@ places_of-below client log =
     All-from_recursion (λ (p : Place). p.local ≤ length log) (places_of client log) (places_from-below client 0 (length log) log (omega arith))
 
 -- an index of a log, with the place of one more record, is one of the log with that record
-pub IsIndexed-push : (log : List Record) (rec : Record) (old new : List (List Place)) → IsIndexed log old → IsWithin rec
+pub IsIndexed-push : (log : List Record) (rec : Record) (old new : List (List Place)) → IsIndexed log old → IsValidRecord rec
     → ((client : ℕ) → client < 6 → get_or new client [] ≡ get_or old client [] ++ option_to_list (place_by client (length log) rec))
     → IsIndexed (log ++ rec ∷ []) new
 IsIndexed-push log rec old new index within places = record {
-  within = All-push IsWithin log rec index.within within;
+  valid = All-push IsValidRecord log rec index.valid within;
   places = λ client h.
       places client h ∙ ap (λ ps. ps ++ option_to_list (place_by client (length log) rec)) (index.places client h)
       ∙ ap (λ n. places_of client log ++ option_to_list (place_by client n rec)) (sym (zero-add (length log)))

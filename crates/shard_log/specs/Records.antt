@@ -1,11 +1,6 @@
-use Rattle.std.specs.Prelude.{ℕ, ◌≤◌, ◌^◌, ◌&&◌, ◌==◌, if◌then◌else◌, Bool, false, Option, Some, None, length}
+use Rattle.std.specs.Prelude.{ℕ, ◌&&◌, ◌==◌, if◌then◌else◌, Bool, false, Option, Some, None}
 use Rattle.record_codec.specs.declared.record.Record.{Record}
 use Rattle.record_codec.specs.declared.record.Record.TheVariants.{Data, Noop}
-
--- a record within the limits: client 0 to 5, a number of at most 2^48, a body of at most 1,024 bytes
-abbrev pub IsWithin : Record → Type 0
-IsWithin (Data client number body) = (client ≤ 5) × (number ≤ 2 ^ 48) × (length body ≤ 1024)
-IsWithin Noop = Unit {0}
 
 -- the record's number, where it is the client's
 abbrev pub number_by : ℕ → Record → Option ℕ

@@ -2,7 +2,7 @@ ghost use Rattle.std.specs.Prelude.{◌≡◌, ℕ, ◌+◌, ◌<◌, ◌≤◌,
 ghost use Rattle.std.specs.Option.{option_copied, option_to_list};
 ghost use Rattle.record_codec.specs.declared.record.Record.TheVariants.{Data};
 ghost use Rattle.shard_log.specs.declared.index.Place.{Place as PlaceOf};
-ghost use Rattle.shard_log.specs.Records.{IsWithin};
+ghost use Rattle.record_codec.specs.Records.{IsValidRecord};
 ghost use Rattle.shard_log.specs.Places.{places_of, place_by};
 ghost use Rattle.shard_log.specs.ShardLog.{last_of, next_of, local_of, append_from_answer, append_from_log, append_noop_log, append_at_answer, append_at_log};
 
@@ -16,7 +16,7 @@ use std::marker::Model;
 /// A shard's log: a list of records, each at its local, that only grows at its end.
 /// Contracts see it as that list.
 ///
-/// Every record is within the limits: its client is at most 5, its number at most 2^48.
+/// Every record is valid: its client is at most 5, its number at most 2^48.
 /// Each call costs O(log n) in the log's length.
 #[derive(Debug, Drop)]
 pub struct ShardLog {
@@ -59,7 +59,7 @@ impl ShardLog {
     /// How many records the log has: the local of the next one.
     pub fn len(&self) -> u64
         ensures len { result ≡ length self.now }
-        ensures within { All IsWithin self.now }
+        ensures valid { All IsValidRecord self.now }
     {
         self.records.len() as u64
     }
@@ -67,7 +67,7 @@ impl ShardLog {
     /// The record at `local`. None at or past the end.
     pub fn get(&self, local: u64) -> Option<&Record>
         ensures record { option_copied result ≡ slice_get self.now local }
-        ensures within { IfSome result (λ rec. IsWithin rec.now) }
+        ensures valid { IfSome result (λ rec. IsValidRecord rec.now) }
     {
         self.records.get(local as usize)
     }
@@ -127,7 +127,7 @@ impl ShardLog {
     /// Puts a record at the end where `local` is the log's length. At every other answer, an error too, the log
     /// is as before.
     pub fn append_at(&mut self, local: u64, rec: Record) -> Result<Grown, OutOfMemory>
-        requires { IsWithin rec }
+        requires { IsValidRecord rec }
         ensures answer { IfOk result (λ answer. answer ≡ append_at_answer local self.old) }
         ensures ok { OnOk result (self.new ≡ append_at_log local rec self.old) }
         ensures err { OnErr result (self.new ≡ self.old) }
@@ -141,7 +141,7 @@ impl ShardLog {
 
     /// Puts a record at the end, and tells its local.
     fn push(&mut self, rec: Record) -> Result<u64, OutOfMemory>
-        requires { IsWithin rec }
+        requires { IsValidRecord rec }
         ensures local { IfOk result (λ local. local ≡ length self.old) }
         ensures ok { OnOk result (self.new ≡ self.old ++ rec ∷ []) }
         ensures err { OnErr result (self.new ≡ self.old) }
@@ -168,7 +168,7 @@ impl ShardLog {
     fn index_of(&self, client: u32) -> &ClientIndex
         requires { client ≤ 5 }
         ensures places { result.now ≡ places_of client self.now }
-        ensures within { All IsWithin self.now }
+        ensures valid { All IsValidRecord self.now }
     {
         &self.clients[client as usize]
     }
@@ -179,7 +179,7 @@ pub fn data(client: u32, number: u64, body: Body) -> Record
     requires client { client ≤ 5 }
     requires number { number ≤ 2 ^ 48 }
     ensures record { result ≡ Data client number body }
-    ensures within { IsWithin result }
+    ensures valid { IsValidRecord result }
 {
     let _len = body.len();
     Record::Data {
@@ -191,7 +191,7 @@ pub fn data(client: u32, number: u64, body: Body) -> Record
 
 /// Notes where a record stands, in its client's list. At an error nothing changes.
 fn note_place(clients: &mut [ClientIndex; 6], local: u64, rec: &Record) -> Result<(), OutOfMemory>
-    requires within { IsWithin rec.now }
+    requires valid { IsValidRecord rec.now }
     requires above { (client : ℕ) → client < 6 → All (λ (p : PlaceOf). p.local ≤ local) (slice_index_or clients.old client []) }
     ensures ok { OnOk result ((client : ℕ) → client < 6 → slice_index_or clients.new client [] ≡ slice_index_or clients.old client [] ++ option_to_list (place_by client local rec.now)) }
     ensures err { OnErr result (clients.new ≡ clients.old) }

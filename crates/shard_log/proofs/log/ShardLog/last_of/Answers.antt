@@ -1,8 +1,8 @@
 use Rattle.std.proofs.Common.{◌≡◌, take, ap, ◌∙◌}
 use Rattle.shard_log.specs.Places.{last_below}
 use Rattle.shard_log.specs.ShardLog.{last_of}
-use Rattle.shard_log.specs.Records.{IsWithin}
-use Rattle.shard_log.proofs.LogLemmas.{last_below-places_of, last_of-within}
+use Rattle.record_codec.specs.Records.{IsValidRecord}
+use Rattle.shard_log.proofs.LogLemmas.{last_below-places_of, last_of-valid}
 use Rattle.std.proofs.lemmas.List.Elements.{All-take}
 use Rattle.shard_log.proofs.log.ShardLog.last_of.Goals as goal
 
@@ -14,4 +14,4 @@ returns-clause-last c = last c
 
 pub returns-clause-small : goal.returns-clause-small
 returns-clause-small c =
-    rw (last c) (last_of-within c.args.client (take c.args.end c.args.self.now) (All-take IsWithin c.args.end c.args.self.now c.index_of.ensures.within))
+    rw (last c) (last_of-valid c.args.client (take c.args.end c.args.self.now) (All-take IsValidRecord c.args.end c.args.self.now c.index_of.ensures.valid))
