@@ -34,3 +34,6 @@ pub use message_reading::decode;
 pub use plan::{Plan, PlanLine, PlanLines};
 pub use step::Step;
 pub use writing::{encode, encode_items};
+
+#[cfg(test)]
+mod tests;
