@@ -1,0 +1,4 @@
+pub mod Errors
+pub mod File
+pub mod Put
+pub mod Vault

@@ -1,0 +1,51 @@
+-- What a vault keeps, and what its calls answer.
+use Rattle.std.specs.Prelude.{◌≡◌, ⊤, ℕ, ◌+◌, ◌≤◌, Bool, true, false, nat_lt, if◌then◌else◌, List, Option, Some, None, Result, Ok, Err}
+use Rattle.spec_base.specs.Crash.{Only}
+use Rattle.gate_vault.specs.declared.errors.VaultError.{VaultError}
+use Rattle.gate_vault.specs.declared.errors.VaultError.TheVariants.{Broken, TooLong, DiskFault, NotAVault, Damaged, OutOfMemory}
+use Rattle.gate_vault.specs.declared.vault.Vault.{Vault}
+use Rattle.gate_vault.specs.File.{StandsFor, StandsWithGate, AreShort, gate_after}
+
+-- the disk tells a file that stands for these entries, within the limit, and every crash leaves that file
+pub record Keeps {D : Type 0} (seen : D → Option (List ℕ)) (may_leave : D → List ℕ → Type 0) (vault : Vault D) (entries : List (List ℕ)) : Type 0 where
+  pub file : List ℕ
+  pub told : seen vault.disk ≡ Some file
+  pub stands : StandsFor file entries
+  pub only : Only file (may_leave vault.disk)
+  pub short : AreShort entries
+  pub gate : vault.gate ≡ gate_after entries
+
+-- it keeps them, and the byte of the last gate stands in the file
+pub record KeepsWithGate {D : Type 0} (seen : D → Option (List ℕ)) (may_leave : D → List ℕ → Type 0) (vault : Vault D) (entries : List (List ℕ)) : Type 0 where
+  pub file : List ℕ
+  pub told : seen vault.disk ≡ Some file
+  pub stands : StandsWithGate file entries
+  pub only : Only file (may_leave vault.disk)
+  pub short : AreShort entries
+  pub gate : vault.gate ≡ gate_after entries
+
+-- the vault's disk
+abbrev pub disk_of : {D : Type 0} → Vault D → D
+disk_of vault = vault.disk
+
+-- an earlier append of this vault had a disk fault or no memory
+abbrev pub is_broken : {D : Type 0} → Vault D → Bool
+is_broken vault = vault.broken
+
+-- why an append is refused before anything is done: the vault is broken, or the entry has more than 4,096 bytes
+abbrev pub refusal_of : Bool → ℕ → Option VaultError
+refusal_of broken len = if broken then Some Broken else if nat_lt 4096 len then Some (TooLong len) else None
+
+-- Ok, a disk fault or want of memory
+abbrev pub IsDoneOrStopped : {T : Type 0} → Result T VaultError → Type 0
+IsDoneOrStopped (Ok _) = ⊤
+IsDoneOrStopped (Err DiskFault) = ⊤
+IsDoneOrStopped (Err OutOfMemory) = ⊤
+IsDoneOrStopped (Err _) = ⊥
+
+-- a vault is broken after an append that had a disk fault or no memory; a refused one leaves it as it was
+abbrev pub broken_after : {T : Type 0} → Bool → Result T VaultError → Bool
+broken_after broken (Ok _) = false
+broken_after broken (Err DiskFault) = true
+broken_after broken (Err OutOfMemory) = true
+broken_after broken (Err _) = broken

@@ -1,0 +1,15 @@
+//! A vault: a file of entries on a disk. What was acknowledged survives a crash at any moment.
+//!
+//! - [`Vault`]: made by [`Vault::format`] or [`Vault::load`]; [`Vault::append`] adds an entry; [`VaultError`].
+//! - The file is the head BELVAULT, and then frames: a gate of one byte, the length in two bytes, the entry. A gate of
+//!   01 is open. Any other byte, and the end of the file, is closed and ends the list.
+#![tactic(auto)]
+
+mod errors;
+mod frame;
+mod put;
+mod twice;
+mod vault;
+
+pub use errors::VaultError;
+pub use vault::Vault;

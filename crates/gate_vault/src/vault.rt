@@ -1,0 +1,94 @@
+ghost use Rattle.std.specs.Prelude.{◌≡◌, ◌≤◌, ◌++◌, ◌∷◌, [], List, ℕ, Some, length, false, MatchOption, OnOk, OnErr, IfOk, IfErr, IsErrOf, Err};
+ghost use Rattle.spec_base.specs.Faults.{StaysSound};
+ghost use Rattle.spec_base.specs.Crash.{LeavesOnly};
+ghost use Rattle.gate_vault.specs.declared.errors.VaultError.TheVariants.{DiskFault};
+ghost use Rattle.gate_vault.specs.File.{IsBeforeOrAfter};
+ghost use Rattle.gate_vault.specs.Put.{FailedTwice, TellsBeforeOrAfter};
+
+use crate::errors::VaultError;
+use crate::frame::{gate_behind, payload_of, write_frame};
+use crate::put::put;
+use spec_base::Disk;
+use std::alloc::Global;
+
+/// The most bytes of an entry.
+pub const MOST_BYTES: usize = 4096;
+
+/// A file of entries on a disk. An entry has at most 4,096 bytes.
+#[derive(Drop)]
+pub struct Vault<D> {
+    alloc: Global,
+    disk: D,
+    /// Where the last gate stands, which is closed: before it are the head and the frames.
+    gate: u64,
+    /// An append had a disk fault or no memory.
+    broken: bool,
+}
+
+impl<D: Disk> Vault<D> {
+    ghost use Rattle.gate_vault.specs.Vault.{Keeps, KeepsWithGate, disk_of, is_broken, refusal_of, IsDoneOrStopped, broken_after};
+
+    /// Writes an empty vault. At an error the disk comes back with it; what stands on it then is not told.
+    pub fn format(alloc: Global, mut disk: D) -> Result<Vault<D>, (D, VaultError)>
+        ensures empty { (file : List ℕ) → D.seen disk ≡ Some file → IfOk result (λ vault. KeepsWithGate D.seen D.may_leave vault []) }
+        ensures whole { IfOk result (λ vault. is_broken vault ≡ false) }
+        ensures fault { IfErr result (λ e. e.1 ≡ DiskFault → FailedTwice (D.faults disk) (D.faults e.0) (D.in_a_row e.0)) }
+    {
+        match put(&mut disk, 0, b"BELVAULT\0") {
+            Ok(()) => Ok(Vault {
+                alloc,
+                disk,
+                gate: 8,
+                broken: false,
+            }),
+            Err(stop) => Err((disk, VaultError::from(stop))),
+        }
+    }
+
+    /// Adds an entry. At Ok it is acknowledged: from then on every crash leaves it, behind those from before.
+    ///
+    /// Where the byte of the last gate stands in the file, a crash at any moment of the call leaves the entries from
+    /// before it, with this one or without; and so it is after DiskFault and OutOfMemory, which break the vault: load
+    /// the file again, which tells. Broken and TooLong change nothing.
+    pub fn append(&mut self, entry: &[u8]) -> Result<(), VaultError>
+        ensures refused { MatchOption (refusal_of (is_broken self.old) (length entry.now)) (IsDoneOrStopped result)
+            (λ e. (result ≡ Err e) × (self.new ≡ self.old)) }
+        ensures acknowledged { (entries : List (List ℕ)) → Keeps D.seen D.may_leave self.old entries
+            → OnOk result (KeepsWithGate D.seen D.may_leave self.new (entries ++ entry.now ∷ [])) }
+        ensures any_moment { (entries : List (List ℕ)) → KeepsWithGate D.seen D.may_leave self.old entries
+            → LeavesOnly D.moment D.left_since (disk_of self.old) (disk_of self.new) (IsBeforeOrAfter entries entry.now) }
+        ensures failed { (entries : List (List ℕ)) → KeepsWithGate D.seen D.may_leave self.old entries
+            → OnErr result (TellsBeforeOrAfter (D.seen (disk_of self.new)) entries entry.now) }
+        ensures broken { is_broken self.new ≡ broken_after (is_broken self.old) result }
+        ensures fault { IsErrOf result DiskFault → FailedTwice (D.faults (disk_of self.old)) (D.faults (disk_of self.new)) (D.in_a_row (disk_of self.new)) }
+        ensures no_fall { D.faults (disk_of self.old) ≤ D.faults (disk_of self.new) }
+        ensures sound { StaysSound (D.never_fails (disk_of self.old)) (D.never_fails (disk_of self.new)) (D.faults (disk_of self.old)) (D.faults (disk_of self.new)) }
+    {
+        if self.broken {
+            return Err(VaultError::Broken);
+        }
+        if entry.len() > MOST_BYTES {
+            return Err(VaultError::TooLong { len: entry.len() });
+        }
+        self.broken = true;
+        let bytes = payload_of(self.alloc, entry)?;
+        let next = gate_behind(self.gate, entry.len())?;
+        write_frame(&mut self.disk, self.gate, bytes.as_slice())?;
+        self.gate = next;
+        self.broken = false;
+        Ok(())
+    }
+
+    /// The disk, as it is. It takes no memory.
+    pub fn into_disk(self) -> D
+        ensures { result ≡ disk_of self }
+    {
+        let Vault {
+            alloc: _,
+            disk,
+            gate: _,
+            broken: _,
+        } = self;
+        disk
+    }
+}
