@@ -75,17 +75,19 @@ pub torn_written : (at : ℕ) (bytes old new : List ℕ) → Written at bytes ol
 torn_written at bytes old new w = record {
   no_shorter = omega (arith, ap length w.result, length-append front rest, size, length-drop (at + length bytes) old);
   before =
-    ap (take (min at (length old))) (w.result ∙ append_assoc (take at old ++ w.gap) bytes rest ∙ append_assoc (take at old) w.gap (bytes ++ rest))
-    ∙ take_at (take at old) (w.gap ++ (bytes ++ rest)) (min at (length old)) (length-take at old) ∙ sym (take_min at old);
+      ap (take (min at (length old))) (w.result ∙ append_assoc (take at old ++ w.gap) bytes rest ∙ append_assoc (take at old) w.gap (bytes ++ rest))
+      ∙ take_at (take at old) (w.gap ++ (bytes ++ rest)) (min at (length old)) (length-take at old) ∙ sym (take_min at old);
   after =
-    ap (λ (l : List ℕ). take (length old - (at + length bytes)) (drop (at + length bytes) l)) w.result
-    ∙ ap (take (length old - (at + length bytes))) (drop_at front rest (at + length bytes) size) ∙ take_all _ rest (omega (arith, length-drop (at + length bytes) old));
+      ap (λ (l : List ℕ). take (length old - (at + length bytes)) (drop (at + length bytes) l)) w.result
+      ∙ ap (take (length old - (at + length bytes))) (drop_at front rest (at + length bytes) size) ∙ take_all _ rest (omega (arith, length-drop (at + length bytes) old));
 }
   where
     rest : List ℕ
     rest = drop (at + length bytes) old
+
     front : List ℕ
     front = take at old ++ w.gap ++ bytes
+
     size : length front ≡ at + length bytes
     size = omega (arith, length-append (take at old ++ w.gap) bytes, length-append (take at old) w.gap, length-take at old, w.reaches)
 

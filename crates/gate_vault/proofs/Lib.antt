@@ -1,3 +1,6 @@
 pub mod Again
-pub mod Frames
+pub mod FrameBytes
+pub mod FrameReads
 pub mod Moments
+pub mod ReadLemmas
+pub mod Standing

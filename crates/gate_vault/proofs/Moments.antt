@@ -56,8 +56,8 @@ module _ {D : Type 0} (moment : D → ℕ) (left_since : D → ℕ → List ℕ 
   put_leaves may_leave only_now old mid new at n file write sync crash only =
       let torn : (c : List ℕ) → (d : List ℕ) × may_leave old d × Torn at n d c → Torn at n file c = λ c from. subst (λ (d : List ℕ). Torn at n d c) (only from.0 from.1) from.2 in
       leaves_from old new (Torn at n file)
-        (elapses_then _ _ _ _ _ _ _ _ _ write sync torn (λ c left. torn c (crash c left)))
-        (λ c left. subst (λ (d : List ℕ). Torn at n file d) (sym (only c (only_now old c left))) (torn_none at n file))
+      (elapses_then _ _ _ _ _ _ _ _ _ write sync torn (λ c left. torn c (crash c left)))
+      (λ c left. subst (λ (d : List ℕ). Torn at n file d) (sym (only c (only_now old c left))) (torn_none at n file))
 
   -- a write alone
   pub write_leaves : (may_leave : D → List ℕ → Type 0) (only_now : (d : D) (c : List ℕ) → left_since d (moment d) c → may_leave d c) (old mid : D) (at n : ℕ) (file : List ℕ)
@@ -65,8 +65,8 @@ module _ {D : Type 0} (moment : D → ℕ) (left_since : D → ℕ → List ℕ 
       → Only file (may_leave old) → LeavesOnly moment left_since old mid (Torn at n file)
   write_leaves may_leave only_now old mid at n file write only =
       leaves_from old mid (Torn at n file)
-        (elapses_widened _ _ _ _ _ _ write (λ c from. subst (λ (d : List ℕ). Torn at n d c) (only from.0 from.1) from.2))
-        (λ c left. subst (λ (d : List ℕ). Torn at n file d) (sym (only c (only_now old c left))) (torn_none at n file))
+      (elapses_widened _ _ _ _ _ _ write (λ c from. subst (λ (d : List ℕ). Torn at n d c) (only from.0 from.1) from.2))
+      (λ c left. subst (λ (d : List ℕ). Torn at n file d) (sym (only c (only_now old c left))) (torn_none at n file))
 
 -- the bytes of a disk after a write and a sync that both answered Ok
 pub put_done : (at : ℕ) (bytes file : List ℕ) (old mid new : Option (List ℕ)) (outcomes : List ℕ → Type 0) → old ≡ Some file → Told (WrittenOver at bytes) old mid → new ≡ mid

@@ -2,11 +2,14 @@ ghost use Rattle.std.specs.Prelude.{◌≡◌, ◌≤◌, ◌++◌, ◌∷◌, [
 ghost use Rattle.spec_base.specs.Faults.{StaysSound};
 ghost use Rattle.spec_base.specs.Crash.{LeavesOnly};
 ghost use Rattle.gate_vault.specs.declared.errors.VaultError.TheVariants.{DiskFault};
-ghost use Rattle.gate_vault.specs.File.{IsBeforeOrAfter};
+ghost use Rattle.gate_vault.specs.File.{IsBeforeOrAfter, StandsFor};
+ghost use Rattle.gate_vault.specs.Frames.{RefusesFile};
+ghost use Rattle.gate_vault.specs.Stops.{IsLoadError};
 ghost use Rattle.gate_vault.specs.Put.{FailedTwice, TellsBeforeOrAfter};
 
 use crate::errors::VaultError;
 use crate::frame::{gate_behind, payload_of, write_frame};
+use crate::load::{Entries, read_file};
 use crate::put::put;
 use spec_base::Disk;
 use std::alloc::Global;
@@ -42,6 +45,34 @@ impl<D: Disk> Vault<D> {
                 broken: false,
             }),
             Err(stop) => Err((disk, VaultError::from(stop))),
+        }
+    }
+
+    /// Syncs, and gives the entries that the file stands for, each of at most 4,096 bytes; every later crash leaves
+    /// them. At an error the disk comes back with it, and a read of it gives what it gave.
+    ///
+    /// A file that stands for no such entries is refused: by NotAVault where it does not begin with the head, and else
+    /// by Damaged at its first open gate with no frame behind it.
+    pub fn load(alloc: Global, mut disk: D) -> Result<(Vault<D>, Entries), (D, VaultError)>
+        ensures loaded { (file : List ℕ) → D.seen disk ≡ Some file
+            → IfOk result (λ loaded. StandsFor file loaded.1 × Keeps D.seen D.may_leave loaded.0 loaded.1) }
+        ensures refused { (file : List ℕ) → D.seen disk ≡ Some file → IfErr result (λ e. RefusesFile file e.1) }
+        ensures named { IfErr result (λ e. IsLoadError e.1) }
+        ensures same { IfErr result (λ e. D.seen e.0 ≡ D.seen disk) }
+        ensures whole { IfOk result (λ loaded. is_broken loaded.0 ≡ false) }
+        ensures fault { IfErr result (λ e. e.1 ≡ DiskFault → FailedTwice (D.faults disk) (D.faults e.0) (D.in_a_row e.0)) }
+    {
+        match read_file(alloc, &mut disk) {
+            Ok((entries, gate)) => Ok((
+                Vault {
+                    alloc,
+                    disk,
+                    gate,
+                    broken: false,
+                },
+                entries,
+            )),
+            Err(error) => Err((disk, error)),
         }
     }
 

@@ -2,7 +2,7 @@ use Rattle.std.proofs.Common.{◌≡◌, ◌+◌, ◌++◌, ◌∷◌, [], ℕ, 
 use Rattle.gate_vault.specs.File.{payload, gate_after, StandsFor, StandsWithGate, IsBeforeOrAfter}
 use Rattle.gate_vault.specs.Put.{WrittenOver, IsPut, IsTornPut, IsKept, TellsBeforeOrAfter}
 use Rattle.gate_vault.proofs.Again.{on_ok_then, on_err_then, on_err_always}
-use Rattle.gate_vault.proofs.Frames.{IsStaged, stands_with, torn_behind, written_behind, torn_gate, written_gate, staged_stands}
+use Rattle.gate_vault.proofs.FrameBytes.{IsStaged, stands_with, torn_behind, written_behind, torn_gate, written_gate, staged_stands}
 use Rattle.gate_vault.proofs.Moments.{leaves_then, leaves_widened}
 use Rattle.gate_vault.proofs.frame.write_frame.Goals as goal
 
@@ -37,7 +37,7 @@ returns-in_err-put-clause-failed g c = λ entries entry file place bytes told st
 pub returns-in_err-put-clause-any_moment : goal.returns-in_err-put-clause-any_moment
 returns-in_err-put-clause-any_moment g c = λ entries entry file place bytes told only stands.
     leaves_widened g.D.Disk.moment g.D.Disk.left_since _ _ _ _ (c.in_err-put.ensures.any_moment file only)
-      (λ f torn. inl (torn_behind entries entry c.args.gate place (length c.args.bytes.now) file f stands torn))
+    (λ f torn. inl (torn_behind entries entry c.args.gate place (length c.args.bytes.now) file f stands torn))
 
 pub returns-clause-acknowledged : goal.returns-clause-acknowledged
 returns-clause-acknowledged g c = λ entries entry file place bytes told stands.
@@ -56,5 +56,5 @@ returns-clause-any_moment g c = λ entries entry file place bytes told only stan
     let first = c.in_ok-put.ensures.done file told in
     let after = staged entries entry c.args.gate place c.args.bytes.now file first.file bytes (stands_with file entries stands) first.written in
     leaves_then g.D.Disk.moment g.D.Disk.left_since _ _ _ _ _ _ (c.in_ok-put.ensures.any_moment file only) (c.put-2.ensures.any_moment first.file first.only)
-      (λ f torn. inl (torn_behind entries entry c.args.gate place (length c.args.bytes.now) file f stands torn))
-      (λ f torn. staged_stands entries entry f (torn_gate entries entry c.args.gate place first.file f after torn))
+    (λ f torn. inl (torn_behind entries entry c.args.gate place (length c.args.bytes.now) file f stands torn))
+    (λ f torn. staged_stands entries entry f (torn_gate entries entry c.args.gate place first.file f after torn))

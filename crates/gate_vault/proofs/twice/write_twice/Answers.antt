@@ -12,4 +12,4 @@ returns-in-Err-Failed-clause-crash g c =
 pub returns-in-Err-Failed-clause-time : goal.returns-in-Err-Failed-clause-time
 returns-in-Err-Failed-clause-time g c =
     elapses_then _ _ _ _ _ _ _ _ _ c.in-Err-Failed.ensures.time c.write_at-in-Err-Failed.ensures.time c.in-Err-Failed.ensures.crash
-      (follows_then _ _ _ _ _ c.in-Err-Failed.ensures.crash c.write_at-in-Err-Failed.ensures.crash)
+    (follows_then _ _ _ _ _ c.in-Err-Failed.ensures.crash c.write_at-in-Err-Failed.ensures.crash)

@@ -1,5 +1,5 @@
 use Rattle.std.proofs.Common.{refl}
-use Rattle.gate_vault.proofs.Frames.{formatted}
+use Rattle.gate_vault.proofs.FrameBytes.{formatted}
 use Rattle.gate_vault.proofs.vault.Vault.format.Goals as goal
 
 pub returns-in-Ok-clause-empty : goal.returns-in-Ok-clause-empty

@@ -48,14 +48,14 @@ nil_of_length (x ∷ l) e = absurd (omega arith)
 pub staged_stands : (entries : List (List ℕ)) (entry c : List ℕ) → IsStaged entries entry c → IsBeforeOrAfter entries entry c
 staged_stands entries entry c staged = elim (cases_eq staged.gate 1) [
   | inl is_open ↦ inr (record {
-      rest = 0 ∷ staged.rest;
-      split =
+    rest = 0 ∷ staged.rest;
+    split =
         staged.split
         ∙ ap (λ (g : ℕ). body entries ++ (g ∷ (payload entry ++ (0 ∷ staged.rest)))) is_open
         ∙ sym (append_assoc (body entries) (1 ∷ payload entry) (0 ∷ staged.rest))
         ∙ ap (λ (l : List ℕ). l ++ (0 ∷ staged.rest)) (sym (body-append entries entry));
-      closed = omega arith;
-    })
+    closed = omega arith;
+  })
   | inr shut ↦ inl (record { rest = staged.gate ∷ (payload entry ++ (0 ∷ staged.rest)); split = staged.split; closed = shut })
 ]
 
@@ -105,11 +105,11 @@ module _ (entries : List (List ℕ)) (entry : List ℕ) (at : ℕ) (place : at �
         gate = gate;
         rest = rest;
         split =
-          written.result
-          ∙ ap (λ (l : List ℕ). l ++ (payload entry ++ (0 ∷ [])) ++ rest) (one_behind front front_long front_begins)
-          ∙ append_assoc (body entries ++ (gate ∷ [])) (payload entry ++ (0 ∷ [])) rest
-          ∙ append_assoc (body entries) (gate ∷ []) ((payload entry ++ (0 ∷ [])) ++ rest)
-          ∙ ap (λ (l : List ℕ). body entries ++ (gate ∷ l)) (append_assoc (payload entry) (0 ∷ []) rest);
+            written.result
+            ∙ ap (λ (l : List ℕ). l ++ (payload entry ++ (0 ∷ [])) ++ rest) (one_behind front front_long front_begins)
+            ∙ append_assoc (body entries ++ (gate ∷ [])) (payload entry ++ (0 ∷ [])) rest
+            ∙ append_assoc (body entries) (gate ∷ []) ((payload entry ++ (0 ∷ [])) ++ rest)
+            ∙ ap (λ (l : List ℕ). body entries ++ (gate ∷ l)) (append_assoc (payload entry) (0 ∷ []) rest);
       }
 
   -- in each torn image of the second write the gate is open or closed, and all else stands
@@ -132,8 +132,8 @@ module _ (entries : List (List ℕ)) (entry : List ℕ) (at : ℕ) (place : at �
         gate = gate;
         rest = staged.rest ++ junk;
         split =
-          sym (take-append-drop at c) ∙ ap (λ (l : List ℕ). l ++ drop at c) begins
-          ∙ ap (λ (l : List ℕ). body entries ++ l) (drop_more c at 0 (omega (arith, torn.no_shorter)) ∙ ap (λ (l : List ℕ). gate ∷ l) tail_and_junk);
+            sym (take-append-drop at c) ∙ ap (λ (l : List ℕ). l ++ drop at c) begins
+            ∙ ap (λ (l : List ℕ). body entries ++ l) (drop_more c at 0 (omega (arith, torn.no_shorter)) ∙ ap (λ (l : List ℕ). gate ∷ l) tail_and_junk);
       }
 
   -- the second write, whole
@@ -154,14 +154,14 @@ module _ (entries : List (List ℕ)) (entry : List ℕ) (at : ℕ) (place : at �
         gate = 0;
         rest = after.rest;
         split =
-          written.result
-          ∙ ap (λ (l : List ℕ). l ++ written.gap ++ (1 ∷ []) ++ drop (at + 1) mid) begins
-          ∙ ap (λ (l : List ℕ). body entries ++ l ++ (1 ∷ []) ++ drop (at + 1) mid) no_gap
-          ∙ ap (λ (l : List ℕ). l ++ (1 ∷ []) ++ drop (at + 1) mid) (append-nil (body entries))
-          ∙ ap (λ (l : List ℕ). body entries ++ (1 ∷ []) ++ l) ends
-          ∙ append_assoc (body entries) (1 ∷ []) tail
-          ∙ sym (append_assoc (body entries) (1 ∷ payload entry) (0 ∷ after.rest))
-          ∙ ap (λ (l : List ℕ). l ++ (0 ∷ after.rest)) (sym (body-append entries entry));
+            written.result
+            ∙ ap (λ (l : List ℕ). l ++ written.gap ++ (1 ∷ []) ++ drop (at + 1) mid) begins
+            ∙ ap (λ (l : List ℕ). body entries ++ l ++ (1 ∷ []) ++ drop (at + 1) mid) no_gap
+            ∙ ap (λ (l : List ℕ). l ++ (1 ∷ []) ++ drop (at + 1) mid) (append-nil (body entries))
+            ∙ ap (λ (l : List ℕ). body entries ++ (1 ∷ []) ++ l) ends
+            ∙ append_assoc (body entries) (1 ∷ []) tail
+            ∙ sym (append_assoc (body entries) (1 ∷ payload entry) (0 ∷ after.rest))
+            ∙ ap (λ (l : List ℕ). l ++ (0 ∷ after.rest)) (sym (body-append entries entry));
         closed = omega arith;
       }
 
