@@ -3,3 +3,7 @@ pub mod Valid
 pub mod Messages
 pub mod Items
 pub mod Decoding
+pub mod Nodes
+pub mod Heeded
+pub mod Entries
+pub mod Steps
