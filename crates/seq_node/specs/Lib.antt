@@ -1,0 +1,7 @@
+pub mod States
+pub mod Values
+pub mod Learning
+pub mod Attempts
+pub mod Rules
+pub mod Steps
+pub mod Restart

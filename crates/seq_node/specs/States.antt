@@ -1,0 +1,86 @@
+-- What a sequencer has: its acceptors, the greatest reports, its wishes, at most one attempt, and how long it has been idle.
+use Rattle.std.specs.Prelude.{ℕ, ◌==◌, ◌&&◌, min, max, if◌then◌else◌, List, [], ◌∷◌, map, replicate, slice_index, slice_set, Option, Some, None, unwrap_or}
+use Rattle.std.specs.List.{range_with_len}
+use Rattle.std.specs.Ordering.{nat_cmp, eq_by_cmp}
+use Rattle.std.specs.BTreeMap.{insert_entry}
+use Rattle.std.specs.Map.{lookup}
+use Rattle.majority.specs.Acceptors.{AcceptorState, fresh_acceptor}
+use Rattle.majority.specs.Proposers.{Attempt}
+use Rattle.node_rules.specs.Names.{NodeId, Entry, Command}
+use Rattle.node_rules.specs.Names.nodes
+use Rattle.node_rules.specs.Names.sides
+
+-- an attempt at a slot, and the entry that it made of the first wish, if it did
+pub record SlotAttempt : Type 0 where
+  pub slot : ℕ
+  pub attempt : Attempt Entry
+  pub wished : Option Entry
+
+-- the acceptors of the slots that have one, in order of slot; the greatest length that each shard's primary and each
+-- shard's backup reported; the wishes, the oldest first; the attempt; the ticks since something happened
+pub record SequencerState : Type 0 where
+  pub acceptors : List (ℕ × AcceptorState Entry)
+  pub primaries : List ℕ
+  pub backups : List ℕ
+  pub wishes : List Command
+  pub attempt : Option SlotAttempt
+  pub idle : ℕ
+
+-- with these acceptors, and nothing else
+abbrev pub only_acceptors : List (ℕ × AcceptorState Entry) → SequencerState
+only_acceptors acceptors = record {
+  acceptors = acceptors;
+  primaries = replicate 6 0;
+  backups = replicate 6 0;
+  wishes = [];
+  attempt = None;
+  idle = 0;
+}
+
+abbrev pub fresh_sequencer : SequencerState
+fresh_sequencer = only_acceptors []
+
+-- ---- acceptors
+
+-- the acceptor of a slot; a slot that nobody asked for has a fresh one
+abbrev pub acceptor_at : SequencerState → ℕ → AcceptorState Entry
+acceptor_at s slot = unwrap_or (lookup (eq_by_cmp nat_cmp slot) s.acceptors) fresh_acceptor
+
+abbrev pub with_acceptor : ℕ → AcceptorState Entry → SequencerState → SequencerState
+with_acceptor slot acceptor s = record s { acceptors = insert_entry nat_cmp s.acceptors slot acceptor }
+
+-- ---- reports
+
+-- the greater of a shard's length and what stands there
+abbrev pub greatest_at : ℕ → ℕ → List ℕ → List ℕ
+greatest_at shard len lengths = slice_set lengths shard (max len (slice_index lengths shard))
+
+-- a replica's report; the greatest is kept
+abbrev pub with_report : NodeId → ℕ → SequencerState → SequencerState
+with_report (nodes.Shard shard sides.Primary) len s = record s { primaries = greatest_at shard len s.primaries }
+with_report (nodes.Shard shard sides.Backup) len s = record s { backups = greatest_at shard len s.backups }
+with_report (nodes.Seq number) len s = s
+with_report (nodes.Client number) len s = s
+with_report (nodes.Consumer number) len s = s
+
+-- a shard's length is the lesser of its two replicas' greatest reports
+abbrev pub lengths_of : SequencerState → List ℕ
+lengths_of s = map (λ shard. min (slice_index s.primaries shard) (slice_index s.backups shard)) (range_with_len 0 6)
+
+-- ---- the attempt
+
+abbrev pub with_attempt : Option SlotAttempt → SequencerState → SequencerState
+with_attempt attempt s = record s { attempt = attempt }
+
+abbrev pub with_idle : ℕ → SequencerState → SequencerState
+with_idle idle s = record s { idle = idle }
+
+-- the ballot of the attempt that stands for a slot, or else 0
+abbrev pub standing_ballot : ℕ → Option SlotAttempt → ℕ
+standing_ballot slot None = 0
+standing_ballot slot (Some a) = if a.slot == slot then a.attempt.ballot else 0
+
+-- the attempt, where this slot and this ballot are its own
+abbrev pub attempt_for : ℕ → ℕ → Option SlotAttempt → Option SlotAttempt
+attempt_for slot ballot None = None
+attempt_for slot ballot (Some a) = if (a.slot == slot) && (a.attempt.ballot == ballot) then Some a else None
