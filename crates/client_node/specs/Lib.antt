@@ -1,0 +1,4 @@
+pub mod States
+pub mod Rules
+pub mod Steps
+pub mod Restart

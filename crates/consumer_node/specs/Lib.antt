@@ -1,0 +1,6 @@
+pub mod Apps
+pub mod States
+pub mod Speculation
+pub mod Rules
+pub mod Steps
+pub mod Restart
