@@ -5,3 +5,4 @@ pub mod Attempts
 pub mod Rules
 pub mod Steps
 pub mod Restart
+pub mod Rows
