@@ -2,3 +2,4 @@ pub mod States
 pub mod Rules
 pub mod Steps
 pub mod Restart
+pub mod Rows

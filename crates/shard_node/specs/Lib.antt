@@ -5,3 +5,4 @@ pub mod Rules
 pub mod Promises
 pub mod Steps
 pub mod Restart
+pub mod Rows
