@@ -21,7 +21,7 @@ use Rattle.client_node.specs.States.{ClientState, count_submitted, home_replicas
 abbrev pub append : Turn ClientState → ℕ → Turn ClientState
 append t number =
     option_map_or (λ body. send (nodes.Shard (own_of t).home sides.Primary) (whats.Append (own_of t).first number body) t)
-      (slice_get (own_of t).bodies number) t
+    (slice_get (own_of t).bodies number) t
 
 -- each submitted body in reach
 abbrev pub append_all : Turn ClientState → Turn ClientState

@@ -53,8 +53,8 @@ show_output output t = if length output == 0 then t else show (marks.Out output)
 abbrev pub confirm_at : {A : Type 0} → Meaning A → Record → Owner → Turn (ConsumerState A) → Turn (ConsumerState A)
 confirm_at app rec o t =
     put_own (with_confirmed app rec o (own_of t))
-      (show_output (app.output (own_of t).base rec)
-        (show (marks.Confirm (own_of t).confirmed rec) (store (items.Confirmed rec (app.output (own_of t).base rec)) t)))
+    (show_output (app.output (own_of t).base rec)
+    (show (marks.Confirm (own_of t).confirmed rec) (store (items.Confirmed rec (app.output (own_of t).base rec)) t)))
 
 -- the next position, which is covered
 abbrev pub confirm : {A : Type 0} → Meaning A → Turn (ConsumerState A) → Record → Turn (ConsumerState A)

@@ -24,20 +24,28 @@ trio = record pair { seqs = 3 }
 
 abbrev pub q0 : NodeId
 q0 = nodes.Seq 0
+
 abbrev pub q1 : NodeId
 q1 = nodes.Seq 1
+
 abbrev pub q2 : NodeId
 q2 = nodes.Seq 2
+
 abbrev pub s0p : NodeId
 s0p = nodes.Shard 0 sides.Primary
+
 abbrev pub s0b : NodeId
 s0b = nodes.Shard 0 sides.Backup
+
 abbrev pub s1p : NodeId
 s1p = nodes.Shard 1 sides.Primary
+
 abbrev pub s1b : NodeId
 s1b = nodes.Shard 1 sides.Backup
+
 abbrev pub c0 : NodeId
 c0 = nodes.Client 0
+
 abbrev pub k0 : NodeId
 k0 = nodes.Consumer 0
 

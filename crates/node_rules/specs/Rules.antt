@@ -52,7 +52,7 @@ decided on_learned from slot count entry t = ask_on from (learn_next on_learned 
 abbrev pub asked_by : {S : Type 0} → Turn S → Option NodeId
 asked_by t =
     if is_sequencer (me_of t) then
-      (if nat_lt 1 (cfg_of t).seqs then Some (nodes.Seq ((number_of (me_of t) + 1) % (cfg_of t).seqs)) else None)
+    (if nat_lt 1 (cfg_of t).seqs then Some (nodes.Seq ((number_of (me_of t) + 1) % (cfg_of t).seqs)) else None)
     else Some (nodes.Seq (t.state.base.ticks % (cfg_of t).seqs))
 
 -- the count of ticks stands still at 2^48

@@ -39,7 +39,7 @@ promise_answered (promise.Waiting have) slot ballot t = t
 abbrev pub promise_counted : PromiseAnswer Entry → ℕ → Option (ℕ × Entry) → SlotAttempt → Turn SequencerState → Turn SequencerState
 promise_counted answer replica report a t =
     promise_answered answer a.slot a.attempt.ballot
-      (put_own (goes_on a (attempt_after_promise answer replica report a.attempt) (own_after_promise answer a.attempt.ballot (acceptor_at (own_of t) a.slot)) (own_of t)) t)
+    (put_own (goes_on a (attempt_after_promise answer replica report a.attempt) (own_after_promise answer a.attempt.ballot (acceptor_at (own_of t) a.slot)) (own_of t)) t)
 
 abbrev pub promise_for : Option SlotAttempt → ℕ → Option (ℕ × Entry) → Turn SequencerState → Turn SequencerState
 promise_for None replica report t = t
@@ -63,7 +63,7 @@ abbrev pub acceptance_for : Option SlotAttempt → ℕ → Turn SequencerState �
 acceptance_for None replica t = t
 acceptance_for (Some a) replica t =
     acceptance_answered (accepted_answer replica a.attempt) a.attempt.sending
-      (put_own (with_attempt (Some (record a { attempt = attempt_after_accepted replica a.attempt })) (own_of t)) t)
+    (put_own (with_attempt (Some (record a { attempt = attempt_after_accepted replica a.attempt })) (own_of t)) t)
 
 -- Accepted: it goes to the attempt whose slot and ballot it has
 abbrev pub hear_acceptance : ℕ → ℕ → ℕ → Turn SequencerState → Turn SequencerState
@@ -75,9 +75,9 @@ hear_acceptance replica slot ballot t = acceptance_for (attempt_for slot ballot 
 abbrev pub attempt_stands : ℕ → ℕ → Entry → Turn SequencerState → SequencerState
 attempt_stands slot ballot value t =
     with_idle 0
-      (with_attempt
-        (Some (record { slot = slot; attempt = attempt_started (number_of (me_of t)) (cfg_of t).seqs ballot value; wished = wished_value (agreed t) (own_of t) }))
-        (with_acceptor slot (own_started ballot value (acceptor_at (own_of t) slot)) (own_of t)))
+    (with_attempt
+    (Some (record { slot = slot; attempt = attempt_started (number_of (me_of t)) (cfg_of t).seqs ballot value; wished = wished_value (agreed t) (own_of t) }))
+    (with_acceptor slot (own_started ballot value (acceptor_at (own_of t) slot)) (own_of t)))
 
 -- at ballot 0 the value is sent at once; another ballot is promised here, and the others are asked to promise it
 abbrev pub first_sends : ℕ → ℕ → Entry → Turn SequencerState → Turn SequencerState

@@ -85,10 +85,10 @@ own_message = sequencer_step second_begins.state (comes q1 q1 (whats.Prepare 0 7
 pub record Rows : Type 0 where
   pub report_of_the_primary : step_of at_primary ≡ nothing
   pub report_of_the_backup : step_of at_both ≡ step (items.Accepted 0 0 same_table ∷ items.Known same_table ∷ [])
-    (sent q0 s0p (whats.Decided 0 1 same_table) ∷ sent q0 s0b (whats.Decided 0 1 same_table) ∷ sent q0 c0 (whats.Decided 0 1 same_table) ∷ sent q0 k0 (whats.Decided 0 1 same_table) ∷ []) []
+      (sent q0 s0p (whats.Decided 0 1 same_table) ∷ sent q0 s0b (whats.Decided 0 1 same_table) ∷ sent q0 c0 (whats.Decided 0 1 same_table) ∷ sent q0 k0 (whats.Decided 0 1 same_table) ∷ []) []
   -- a step begins once: the tick decides the cut, and nothing more
   pub cut_follows : step_of ticked ≡ step (items.Accepted 1 0 (entries.Cut 0 0) ∷ items.Known (entries.Cut 0 0) ∷ [])
-    (sent q0 s0p (whats.Decided 1 2 (entries.Cut 0 0)) ∷ sent q0 s0b (whats.Decided 1 2 (entries.Cut 0 0)) ∷ sent q0 c0 (whats.Decided 1 2 (entries.Cut 0 0)) ∷ sent q0 k0 (whats.Decided 1 2 (entries.Cut 0 0)) ∷ []) []
+      (sent q0 s0p (whats.Decided 1 2 (entries.Cut 0 0)) ∷ sent q0 s0b (whats.Decided 1 2 (entries.Cut 0 0)) ∷ sent q0 c0 (whats.Decided 1 2 (entries.Cut 0 0)) ∷ sent q0 k0 (whats.Decided 1 2 (entries.Cut 0 0)) ∷ []) []
   pub known_is_told : step_of asked ≡ step [] (sent q0 c0 (whats.Decided 1 2 (entries.Cut 0 0)) ∷ []) []
   pub lagging_is_left : step_of uneven ≡ nothing
   pub lagging_fills : step_of (sequencer_step uneven.state events.Tick) ≡ step [] (sent q0 s1p (whats.Fill 1) ∷ []) []
@@ -98,7 +98,7 @@ pub record Rows : Type 0 where
   pub reported_is_sent : step_of second_sends ≡ step (items.Accepted 0 1 table ∷ []) (sent q1 q0 (whats.Accept 0 1 table) ∷ sent q1 q2 (whats.Accept 0 1 table) ∷ []) []
   pub other_ballot_is_left : step_of late ≡ nothing
   pub majority_decides : step_of second_decides ≡ step (items.Known table ∷ [])
-    (sent q1 q0 (whats.Decided 0 1 table) ∷ sent q1 q2 (whats.Decided 0 1 table) ∷ sent q1 s0p (whats.Decided 0 1 table) ∷ sent q1 s0b (whats.Decided 0 1 table)
+      (sent q1 q0 (whats.Decided 0 1 table) ∷ sent q1 q2 (whats.Decided 0 1 table) ∷ sent q1 s0p (whats.Decided 0 1 table) ∷ sent q1 s0b (whats.Decided 0 1 table)
       ∷ sent q1 s1p (whats.Decided 0 1 table) ∷ sent q1 s1b (whats.Decided 0 1 table) ∷ sent q1 c0 (whats.Decided 0 1 table) ∷ sent q1 k0 (whats.Decided 0 1 table) ∷ []) []
   pub wish_stays : second_decides.state.own.wishes ≡ commands.Remove 0 ∷ []
   pub attempt_is_over : second_decides.state.own.attempt ≡ None

@@ -34,7 +34,7 @@ abbrev pub prepare_answered : PrepareAnswer Entry → NodeId → ℕ → ℕ →
 prepare_answered (prepare.Lower promised) from slot ballot t = t
 prepare_answered (prepare.Promised report) from slot ballot t =
     send from (whats.Promise slot ballot report)
-      (store (items.Promised slot ballot) (put_own (with_acceptor slot (after_prepare ballot (acceptor_at (own_of t) slot)) (own_of t)) t))
+    (store (items.Promised slot ballot) (put_own (with_acceptor slot (after_prepare ballot (acceptor_at (own_of t) slot)) (own_of t)) t))
 
 -- Prepare: a known slot is told; where the acceptor promises, that is stored and goes back
 abbrev pub hear_prepare : NodeId → ℕ → ℕ → Turn SequencerState → Turn SequencerState
@@ -48,7 +48,7 @@ abbrev pub accept_answered : AcceptAnswer → NodeId → ℕ → ℕ → Entry �
 accept_answered (accept.Lower promised) from slot ballot entry t = t
 accept_answered accept.Taken from slot ballot entry t =
     send from (whats.Accepted slot ballot)
-      (store (items.Accepted slot ballot entry) (put_own (with_acceptor slot (after_accept ballot entry (acceptor_at (own_of t) slot)) (own_of t)) t))
+    (store (items.Accepted slot ballot entry) (put_own (with_acceptor slot (after_accept ballot entry (acceptor_at (own_of t) slot)) (own_of t)) t))
 
 -- Accept: a known slot is told; where the acceptor takes it, that is stored and goes back
 abbrev pub hear_accept : NodeId → ℕ → ℕ → Entry → Turn SequencerState → Turn SequencerState
