@@ -6,4 +6,7 @@
 
 mod points;
 
+#[cfg(test)]
+mod tests;
+
 pub use points::UndoPoints;
