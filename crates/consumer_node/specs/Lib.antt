@@ -4,3 +4,4 @@ pub mod Speculation
 pub mod Rules
 pub mod Steps
 pub mod Restart
+pub mod Rows

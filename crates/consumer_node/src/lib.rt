@@ -4,3 +4,7 @@
 //! state that follows. `specs/Restart.antt` says what a vault's items alone give.
 //! The state has no undo tokens: the state of the application before a position is the fold of the records below it.
 #![tactic(auto)]
+
+mod rows;
+
+pub use rows::rows_compute;

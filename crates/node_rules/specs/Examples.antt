@@ -53,9 +53,9 @@ k0 = nodes.Consumer 0
 abbrev pub five : Record
 five = records.Data 0 0 (53 ∷ [])
 
--- another first record, with the digit 7
+-- its second one, with the digit 7
 abbrev pub seven : Record
-seven = records.Data 1 0 (55 ∷ [])
+seven = records.Data 0 1 (55 ∷ [])
 
 -- a message comes
 abbrev pub comes : NodeId → NodeId → What → Event
