@@ -1,6 +1,5 @@
 -- Worked steps of a client.
 use Rattle.std.specs.Prelude.{◌≡◌, ℕ, List, [], ◌∷◌}
-use Rattle.node_rules.specs.Names.{Event}
 use Rattle.node_rules.specs.Names.entries
 use Rattle.node_rules.specs.Names.events
 use Rattle.node_rules.specs.Names.items

@@ -1,5 +1,5 @@
 -- What a client has: its submissions, how many of them are acknowledged, its home, and the first number that it sends there.
-use Rattle.std.specs.Prelude.{ℕ, ◌+◌, ◌-◌, Bool, ◌&&◌, nat_lt, nat_le, is_some, List, [], length}
+use Rattle.std.specs.Prelude.{ℕ, ◌+◌, Bool, ◌&&◌, nat_lt, nat_le, is_some, List, [], length}
 use Rattle.cut_core.specs.Map.{gone_end}
 use Rattle.msg_wire.specs.Nodes.{replicas_of}
 use Rattle.node_rules.specs.Names.{NodeId}

@@ -1,5 +1,5 @@
 -- Small clusters, nodes and steps, of which the worked rows of the node crates speak.
-use Rattle.std.specs.Prelude.{ℕ, List, [], ◌∷◌}
+use Rattle.std.specs.Prelude.{List, [], ◌∷◌}
 use Rattle.node_rules.specs.Names.{NodeId, Config, Row, Record, Message, What, Event, Item, Mark, Step}
 use Rattle.node_rules.specs.Names.nodes
 use Rattle.node_rules.specs.Names.sides

@@ -1,5 +1,5 @@
 -- The rules of every node. What a kind of node does at a learned entry is a rule of that kind, given what was agreed before it.
-use Rattle.std.specs.Prelude.{ℕ, ◌+◌, ◌%◌, ◌^◌, ◌==◌, nat_lt, min, max, if◌then◌else◌, List, [], ◌∷◌, Option, Some, None, slice_get}
+use Rattle.std.specs.Prelude.{ℕ, ◌+◌, ◌%◌, ◌^◌, ◌==◌, nat_lt, min, max, if◌then◌else◌, Option, Some, None}
 use Rattle.std.specs.Option.{option_map_or}
 use Rattle.cut_core.specs.Agreements.{Agreement}
 use Rattle.node_rules.specs.Names.{NodeId, Entry, Message, What}
@@ -8,7 +8,7 @@ use Rattle.node_rules.specs.Names.items
 use Rattle.node_rules.specs.Names.whats
 use Rattle.msg_wire.specs.Nodes.{is_sequencer, number_of}
 use Rattle.msg_wire.specs.Heeded.{is_heeded}
-use Rattle.node_rules.specs.Nodes.{Base, knowing, has_slot}
+use Rattle.node_rules.specs.Nodes.{knowing, has_slot}
 use Rattle.node_rules.specs.Turns.{Turn, cfg_of, me_of, count_known, agreed, put_base, store, send}
 
 -- a message that comes: one that isn't heeded does nothing by itself

@@ -1,5 +1,5 @@
 -- A sequencer at its start, after a restart, and as the items of its vault give it.
-use Rattle.std.specs.Prelude.{ℕ, List, []}
+use Rattle.std.specs.Prelude.{ℕ, List}
 use Rattle.std.specs.List.{fold}
 use Rattle.majority.specs.Acceptors.{AcceptorState, after_prepare, after_accept}
 use Rattle.node_rules.specs.Names.{NodeId, Config, Entry, Item}

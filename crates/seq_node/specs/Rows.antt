@@ -1,18 +1,16 @@
 -- Worked steps of sequencers.
-use Rattle.std.specs.Prelude.{◌≡◌, ℕ, List, [], ◌∷◌, Option, Some, None}
-use Rattle.majority.specs.Acceptors.{AcceptorState}
-use Rattle.node_rules.specs.Names.{NodeId, Entry, Command, Event}
+use Rattle.std.specs.Prelude.{◌≡◌, [], ◌∷◌, Some, None}
+use Rattle.node_rules.specs.Names.{Entry, Command}
 use Rattle.node_rules.specs.Names.entries
 use Rattle.node_rules.specs.Names.commands
 use Rattle.node_rules.specs.Names.events
 use Rattle.node_rules.specs.Names.items
 use Rattle.node_rules.specs.Names.whats
-use Rattle.node_rules.specs.Nodes.{Node}
 use Rattle.node_rules.specs.Turns.{Turn, step_of}
 use Rattle.node_rules.specs.Examples.{single, pair, trio, two_rows, q0, q1, q2, s0p, s0b, s1p, s1b, c0, k0, comes, sent, step, nothing}
 use Rattle.seq_node.specs.States.{SequencerState, acceptor_at}
 use Rattle.seq_node.specs.Steps.{sequencer_step}
-use Rattle.seq_node.specs.Restart.{fresh_node, restart_of, reset_of}
+use Rattle.seq_node.specs.Restart.{fresh_node, restart_of}
 
 -- ---- one sequencer, by which all is decided at once
 

@@ -1,9 +1,9 @@
 -- A sequencer's rules, one for each kind of message, for a command and for a tick.
-use Rattle.std.specs.Prelude.{ℕ, ◌+◌, ◌*◌, ◌&&◌, nat_le, nat_lt, min, is_some, is_none, if◌then◌else◌, List, [], ◌∷◌, ◌++◌, length, slice_get, Option, Some, None}
+use Rattle.std.specs.Prelude.{ℕ, ◌+◌, ◌*◌, ◌&&◌, nat_le, nat_lt, min, is_some, is_none, if◌then◌else◌, [], ◌∷◌, ◌++◌, length, slice_get}
 use Rattle.std.specs.List.{fold}
 use Rattle.std.specs.Option.{option_map_or}
 use Rattle.lag_fix.specs.declared.wanted.Wanted.{Wanted}
-use Rattle.majority.specs.Acceptors.{AcceptorState, prepare_answer, after_prepare, accept_answer, after_accept}
+use Rattle.majority.specs.Acceptors.{prepare_answer, after_prepare, accept_answer, after_accept}
 use Rattle.majority.specs.declared.answers.PrepareAnswer.{PrepareAnswer}
 use Rattle.majority.specs.declared.answers.PrepareAnswer.TheVariants as prepare
 use Rattle.majority.specs.declared.answers.AcceptAnswer.{AcceptAnswer}
@@ -14,7 +14,7 @@ use Rattle.node_rules.specs.Names.nodes
 use Rattle.node_rules.specs.Names.sides
 use Rattle.node_rules.specs.Names.items
 use Rattle.node_rules.specs.Names.whats
-use Rattle.node_rules.specs.Turns.{Turn, cfg_of, me_of, own_of, known_of, count_known, agreed, put_own, store, send}
+use Rattle.node_rules.specs.Turns.{Turn, me_of, own_of, known_of, count_known, agreed, put_own, store, send}
 use Rattle.node_rules.specs.Rules.{tick}
 use Rattle.seq_node.specs.States.{SequencerState, acceptor_at, with_acceptor, with_report, with_idle}
 use Rattle.seq_node.specs.Values.{lagging_rows, has_uncovered}

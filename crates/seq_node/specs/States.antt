@@ -1,5 +1,5 @@
 -- What a sequencer has: its acceptors, the greatest reports, its wishes, at most one attempt, and how long it has been idle.
-use Rattle.std.specs.Prelude.{ℕ, ◌==◌, ◌&&◌, min, max, if◌then◌else◌, List, [], ◌∷◌, map, replicate, slice_index, slice_set, Option, Some, None, unwrap_or}
+use Rattle.std.specs.Prelude.{ℕ, ◌==◌, ◌&&◌, min, max, if◌then◌else◌, List, [], map, replicate, slice_index, slice_set, Option, Some, None, unwrap_or}
 use Rattle.std.specs.List.{range_with_len}
 use Rattle.std.specs.Ordering.{nat_cmp, eq_by_cmp}
 use Rattle.std.specs.BTreeMap.{insert_entry}

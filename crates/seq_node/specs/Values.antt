@@ -4,12 +4,11 @@ use Rattle.std.specs.Option.{option_map, option_or}
 use Rattle.fix_ante.specs.Windows.{rows_of}
 use Rattle.lag_fix.specs.declared.wanted.Wanted.{Wanted}
 use Rattle.lag_fix.specs.Lags.{lagging_of, is_uncovered}
-use Rattle.cut_core.specs.Agreements.{Agreement, is_last_round}
+use Rattle.cut_core.specs.Agreements.{Agreement}
 use Rattle.majority.specs.Acceptors.{AcceptorState}
 use Rattle.node_rules.specs.Names.{Entry, Command}
 use Rattle.node_rules.specs.Names.entries
 use Rattle.node_rules.specs.Names.commands
-use Rattle.node_rules.specs.Nodes.{Base, Node, agreed_by}
 use Rattle.seq_node.specs.States.{SequencerState, lengths_of, acceptor_at}
 
 -- the rows of the current window whose shards are short of the round that is next

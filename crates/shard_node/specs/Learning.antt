@@ -1,7 +1,6 @@
 -- What a replica does at a learned entry.
 use Rattle.std.specs.Prelude.{ℕ, ◌-◌, if◌then◌else◌, Option, Some, None, slice_get}
 use Rattle.std.specs.List.{fold, range_with_len}
-use Rattle.std.specs.Option.{option_map_or}
 use Rattle.cut_core.specs.declared.effects.Effect.{Effect}
 use Rattle.cut_core.specs.declared.effects.Effect.TheVariants.{Removed}
 use Rattle.cut_core.specs.Agreements.{Agreement}

@@ -1,5 +1,5 @@
 -- The end of a primary's step: durable records that have a position are promised and delivered.
-use Rattle.std.specs.Prelude.{ℕ, ◌+◌, ◌-◌, Bool, is_some, if◌then◌else◌, List, Option, Some, None, slice_get}
+use Rattle.std.specs.Prelude.{ℕ, ◌+◌, ◌-◌, is_some, if◌then◌else◌, List, Option, Some, None, slice_get}
 use Rattle.std.specs.List.{fold, range_with_len, take_while}
 use Rattle.cut_core.specs.Map.{leased}
 use Rattle.msg_wire.specs.Nodes.{is_primary, consumers_of}

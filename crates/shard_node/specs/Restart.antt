@@ -1,5 +1,5 @@
 -- A replica at its start, after a restart, and as the items of its vault give it.
-use Rattle.std.specs.Prelude.{ℕ, ◌+◌, ◌^◌, nat_le, if◌then◌else◌, List, [], ◌∷◌, ◌++◌, length, replicate}
+use Rattle.std.specs.Prelude.{◌+◌, ◌^◌, nat_le, if◌then◌else◌, List, [], ◌∷◌, ◌++◌, length, replicate}
 use Rattle.std.specs.List.{fold}
 use Rattle.cut_core.specs.Map.{covered_locals}
 use Rattle.msg_wire.specs.Nodes.{number_of}

@@ -1,6 +1,6 @@
 -- Worked steps of replicas.
-use Rattle.std.specs.Prelude.{◌≡◌, ℕ, List, [], ◌∷◌}
-use Rattle.node_rules.specs.Names.{Record, NodeId, Event, What}
+use Rattle.std.specs.Prelude.{◌≡◌, [], ◌∷◌}
+use Rattle.node_rules.specs.Names.{Event}
 use Rattle.node_rules.specs.Names.entries
 use Rattle.node_rules.specs.Names.events
 use Rattle.node_rules.specs.Names.items

@@ -1,9 +1,8 @@
 -- What a replica of a shard has: its log, and of a primary how much of it is durable and promised.
-use Rattle.std.specs.Prelude.{ℕ, Bool, ◌+◌, max, if◌then◌else◌, List, [], length, is_some}
-use Rattle.cut_core.specs.Agreements.{Agreement}
+use Rattle.std.specs.Prelude.{ℕ, Bool, max, if◌then◌else◌, List, [], length, is_some}
 use Rattle.cut_core.specs.Map.{covered_locals, gone_end}
 use Rattle.msg_wire.specs.Nodes.{is_primary, number_of}
-use Rattle.node_rules.specs.Names.{Record, NodeId}
+use Rattle.node_rules.specs.Names.{Record}
 use Rattle.node_rules.specs.Turns.{Turn, me_of, own_of, agreed, put_own}
 
 -- the shard's records by local; how many of them the primary knows both replicas to hold; how many of them it has
