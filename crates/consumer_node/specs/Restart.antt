@@ -1,5 +1,5 @@
 -- A consumer at its start, after a restart, and as the items of its vault give it.
-use Rattle.std.specs.Prelude.{ℕ, List, []}
+use Rattle.std.specs.Prelude.{List, []}
 use Rattle.std.specs.List.{fold}
 use Rattle.std.specs.Option.{option_map_or}
 use Rattle.cut_core.specs.Map.{located}

@@ -1,6 +1,6 @@
 -- Worked steps of a consumer.
-use Rattle.std.specs.Prelude.{◌≡◌, ℕ, List, [], ◌∷◌, ◌++◌, take, length}
-use Rattle.node_rules.specs.Names.{NodeId, Message, Record, Event}
+use Rattle.std.specs.Prelude.{◌≡◌, ℕ, List, [], ◌∷◌, ◌++◌, length}
+use Rattle.node_rules.specs.Names.{Message, Record, Event}
 use Rattle.node_rules.specs.Names.entries
 use Rattle.node_rules.specs.Names.events
 use Rattle.node_rules.specs.Names.items
@@ -72,7 +72,7 @@ pub record Rows : Type 0 where
   pub both_are_applied : step_of both ≡ step [] [] (marks.Apply 0 five ∷ marks.Apply 1 seven ∷ [])
   -- the second output is that of the state after the first record
   pub both_are_confirmed : step_of both_confirmed ≡ step (items.Known (entries.Cut 0 0) ∷ items.Confirmed five (53 ∷ []) ∷ items.Confirmed seven (53 ∷ 55 ∷ []) ∷ []) []
-    (marks.Confirm 0 five ∷ marks.Out (53 ∷ []) ∷ marks.Confirm 1 seven ∷ marks.Out (53 ∷ 55 ∷ []) ∷ [])
+      (marks.Confirm 0 five ∷ marks.Out (53 ∷ []) ∷ marks.Confirm 1 seven ∷ marks.Out (53 ∷ 55 ∷ []) ∷ [])
   pub tick_fetches : step_of (consumer_step joined (fresh_node joined pair k0) events.Tick) ≡ step [] (sent k0 q0 (whats.Learn 0) ∷ fetches 0 ++ (fetches 1 ++ (fetches 2 ++ fetches 3))) []
   pub held_is_not_fetched : length (then_step waiting events.Tick).sends ≡ 15
   -- restarts

@@ -1,5 +1,5 @@
 -- The end of a consumer's step: records are applied as far as they are held in order, and up to three are confirmed.
-use Rattle.std.specs.Prelude.{ℕ, ◌+◌, ◌-◌, ◌==◌, min, if◌then◌else◌, List, [], ◌∷◌, ◌++◌, map, length, take, drop, Option, Some, None}
+use Rattle.std.specs.Prelude.{ℕ, ◌+◌, ◌-◌, ◌==◌, min, if◌then◌else◌, List, [], ◌∷◌, ◌++◌, map, length, take, drop, Option}
 use Rattle.std.specs.List.{fold}
 use Rattle.std.specs.Option.{option_map_or, some_prefix}
 use Rattle.fix_ante.specs.declared.spots.Owner.{Owner}
