@@ -5,7 +5,6 @@
 #![tactic(auto)]
 
 mod points;
-
 #[cfg(test)]
 mod tests;
 
