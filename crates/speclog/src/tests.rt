@@ -1,6 +1,6 @@
 use crate::fault::Fault;
 use crate::outcome::Outcome;
-use crate::top::{top, top_play};
+use crate::top::top;
 use msg_wire::{Event, Mark, Message, What};
 use net_model::HistoryEntry;
 use quota_table::{Bytes, Listed};
@@ -30,7 +30,7 @@ struct Played {
 
 /// `play` over memory, in pieces of at most `most` bytes, where these calls of the source and of the sink fail.
 fn play(
-    alloc: Global,
+    rt: &HostRuntime,
     text: &[u8],
     most: usize,
     reads: &[u64],
@@ -38,11 +38,13 @@ fn play(
 ) -> Result<Played, Fail>
     requires { 1 ≤ most }
 {
+    let alloc = rt.alloc();
     let mut words = Vec::new(alloc);
     words.push(String::from_str(alloc, "play")?)?;
     let mut source = MemSource::new(alloc, text, most, reads)?;
     let mut sink = MemSink::new(alloc, most, writes)?;
-    let outcome = top_play(alloc, words.as_slice(), &mut source, &mut sink);
+    let mut shelf = MemShelf::new(alloc, &[])?;
+    let outcome = top(rt, words.as_slice(), &mut source, &mut sink, &mut shelf);
     let written = Bytes::from_slice(alloc, sink.taken())?;
     Ok(Played { outcome, written })
 }
@@ -56,7 +58,7 @@ fn plays_the_first_record(rt: HostRuntime) -> Result<(), Fail> {
         (&FIRST_RECORD[..HEAD - 1], 7, NOTHING),
     ];
     for (text, most, report) in rows {
-        let played = play(rt.alloc(), text, most, &[], &[])?;
+        let played = play(&rt, text, most, &[], &[])?;
         assert_eq!(rt; played.outcome.status, 0);
         assert!(rt; played.outcome.fault.is_none());
         assert!(rt; played.outcome.history.is_some());
@@ -102,7 +104,7 @@ fn answers_by_its_faults(rt: HostRuntime) -> Result<(), Fail> {
         ),
     ];
     for (text, reads, writes, fault, status, out) in rows {
-        let played = play(rt.alloc(), text, 10, reads, writes)?;
+        let played = play(&rt, text, 10, reads, writes)?;
         assert_eq!(rt; played.outcome.fault, Some(fault));
         assert_eq!(rt; played.outcome.status, status);
         assert_eq!(rt; played.outcome.history.is_some(), status == 5);
@@ -140,11 +142,11 @@ fn judges_words(rt: HostRuntime) -> Result<(), Fail> {
 fn refuses_too_long_an_input(rt: HostRuntime) -> Result<(), Fail> {
     let most = 16_777_216;
     let mut text = vec![in rt.alloc(); b'#'; most]?;
-    let played = play(rt.alloc(), text.as_slice(), 1 << 20, &[], &[])?;
+    let played = play(&rt, text.as_slice(), 1 << 20, &[], &[])?;
     let kind = ScriptKind::NotBuilt;
     assert_eq!(rt; played.outcome.fault, Some(Fault::Script { line: 1, kind }));
     text.push(b'#')?;
-    let played = play(rt.alloc(), text.as_slice(), 1 << 20, &[], &[])?;
+    let played = play(&rt, text.as_slice(), 1 << 20, &[], &[])?;
     assert_eq!(rt; played.outcome.fault, Some(Fault::InputTooLong));
     assert_eq!(rt; played.outcome.status, 3);
     Ok(())
@@ -162,7 +164,7 @@ fn refuses_what_is_cut_short(rt: HostRuntime) -> Result<(), Fail> {
             79..=84 => 8,
             _ => 0,
         };
-        let played = play(rt.alloc(), &FIRST_RECORD[..cut], 4096, &[], &[])?;
+        let played = play(&rt, &FIRST_RECORD[..cut], 4096, &[], &[])?;
         let kind = ScriptKind::NotBuilt;
         let fault = if line == 0 {
             None
@@ -290,7 +292,7 @@ fn first_steps(alloc: Global) -> Result<Vec<HistoryEntry>, Fail> {
 
 #[test]
 fn steps_its_nodes(rt: HostRuntime) -> Result<(), Fail> {
-    let played = play(rt.alloc(), FIRST_RECORD, 4096, &[], &[])?;
+    let played = play(&rt, FIRST_RECORD, 4096, &[], &[])?;
     let history = played.outcome.history.ok_or("no history")?;
     assert_eq!(rt; history.len(), 101);
     let steps = first_steps(rt.alloc())?;
