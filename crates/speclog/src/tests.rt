@@ -8,7 +8,9 @@ use record_codec::{Body, Record};
 use script_text::ScriptKind;
 use spec_base::{MemShelf, MemSink, MemSource, NodeId, Side};
 use std::alloc::Global;
+use std::sync::Wait;
 use std::test::Fail;
+use std::thread::Threads;
 
 const FIRST_RECORD: &[u8] =
     b"belfast 1\nseqs 1\nshards 1\nwindow 2 0:1\nclients 0\nconsumers 1 tally\nsubmit 0 5\ndrain 100\n";
@@ -29,8 +31,8 @@ struct Played {
 }
 
 /// `play` over memory, in pieces of at most `most` bytes, where these calls of the source and of the sink fail.
-fn play(
-    rt: &HostRuntime,
+fn play<R: AllocGlobal + Threads + Wait + Sync>(
+    rt: &R,
     text: &[u8],
     most: usize,
     reads: &[u64],
