@@ -1,10 +1,10 @@
 -- How the writes of a disk in memory change its bytes, and how its moments go on.
-use Rattle.std.proofs.Common.{◌≡◌, ◌⊎◌, inl, inr, refl, sym, ap, ◌∙◌, subst, ℕ, ◌+◌, ◌-◌, ◌≤◌, ◌<◌, List, [], ◌∷◌, ◌++◌, length, take, drop, replicate, reverse, arith, length-append, length-drop, append-nil}
+use Rattle.std.proofs.Common.{◌≡◌, inl, inr, refl, sym, ap, ◌∙◌, subst, ℕ, ◌+◌, ◌-◌, ◌≤◌, List, [], ◌∷◌, ◌++◌, length, take, drop, replicate, reverse, arith, length-append, length-drop, append-nil}
 use Rattle.std.proofs.lemmas.List.{take_all, drop_all, take-append-le, take-replicate, reverse-append, length-replicate}
 use Rattle.std.proofs.Math.Seq.{take-append-add}
 use Rattle.spec_base.specs.declared.disk_call.DiskCall.{DiskCall}
-use Rattle.spec_base.specs.Disk.{Told, Torn, Written}
-use Rattle.spec_base.specs.declared.disk_call.DiskCall.TheVariants.{Write, Sync}
+use Rattle.spec_base.specs.Disk.{Torn}
+use Rattle.spec_base.specs.declared.disk_call.DiskCall.TheVariants.{Sync}
 use Rattle.spec_base.specs.Crash.{Elapses, Follows, NoneNew}
 use Rattle.spec_base.specs.MemDisk.{overwritten, content_of, IsLeft, WasLeft}
 use Rattle.std.proofs.lemmas.Bool.{cases_lt}

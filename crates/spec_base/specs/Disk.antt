@@ -1,5 +1,5 @@
 -- What the calls of a disk do to its bytes.
-use Rattle.std.specs.Prelude.{◌≡◌, ◌↔◌, ⊤, ℕ, ◌+◌, ◌-◌, ◌<◌, ◌≤◌, min, List, [], ◌++◌, length, take, drop, Option, Some, None, Result, Ok, Err}
+use Rattle.std.specs.Prelude.{◌≡◌, ⊤, ℕ, ◌+◌, ◌-◌, ◌<◌, ◌≤◌, min, List, ◌++◌, length, take, drop, Option, Some, None, Result, Ok, Err}
 use Rattle.spec_base.specs.declared.stop.Stop.{Stop}
 use Rattle.spec_base.specs.declared.stop.Stop.TheVariants.{Failed, OutOfMemory}
 

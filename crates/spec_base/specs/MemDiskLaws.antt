@@ -1,5 +1,5 @@
 -- What the definitions of a disk in memory say of one moment.
-use Rattle.std.proofs.Common.{◌≡◌, ◌⊎◌, inl, inr, refl, sym, ap, ◌∙◌, ℕ, ◌+◌, ◌-◌, ◌≤◌, min, List, [], ◌∷◌, ◌++◌, length, take, drop, replicate, arith, length-append, length-drop, append_assoc}
+use Rattle.std.proofs.Common.{◌≡◌, inl, inr, refl, sym, ap, ◌∙◌, ℕ, ◌+◌, ◌-◌, min, List, [], ◌∷◌, ◌++◌, length, take, drop, replicate, arith, length-append, length-drop, append_assoc}
 use Rattle.std.proofs.lemmas.List.{take_at, drop_at, take_all, take_min, length-take, length-replicate}
 use Rattle.spec_base.specs.declared.disk_call.DiskCall.{DiskCall}
 use Rattle.spec_base.specs.declared.disk_call.DiskCall.TheVariants.{Write, Sync}

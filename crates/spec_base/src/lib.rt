@@ -2,6 +2,8 @@
 //!
 //! - [`Source`], [`Sink`]: where bytes come from and where they go, with counts of faults; [`Stop`], what a call
 //!   answers in place of Ok. [`MemSource`] and [`MemSink`] are in memory, [`StdSource`] and [`StdSink`] over std.
+//! - [`Disk`]: a file read and written at offsets, and what a crash may leave of it; [`Shelf`]: disks by name.
+//!   [`MemDisk`], which keeps each [`DiskCall`], and [`MemShelf`], with its [`DiskFail`]s, are in memory.
 //! - [`NodeId`], [`Side`]: who takes part. Their order is: sequencers by number, shards by number with the primary
 //!   first, clients, consumers.
 #![tactic(auto)]

@@ -1,7 +1,11 @@
-ghost use Rattle.std.specs.Prelude.{◌≡◌, ◌≤◌, ◌+◌, ◌-◌, ◌++◌, ◌∷◌, [], Some, min, length, take, drop, replicate, vec_len, vec_capacity, OnOk, OnErr, IfOk};
-ghost use Rattle.spec_base.specs.Plan.{fresh_plan, is_sound};
+ghost use Rattle.std.specs.Prelude.{◌≡◌, ◌↔◌, ◌≤◌, ◌+◌, ◌-◌, ◌++◌, ◌∷◌, [], Some, Ok, Err, min, length, take, drop, replicate, vec_len, vec_capacity, if◌then◌else◌, IsTrue, MatchBool, OnOk, OnErr, IfOk, IsErrOf};
+ghost use Rattle.spec_base.specs.Faults.{CountsFault, StaysSound, RoseByOne};
+ghost use Rattle.spec_base.specs.Plan.{fresh_plan, fails_next, after_call, is_sound};
+ghost use Rattle.spec_base.specs.Disk.{GivesPart, Written, Torn, CountsRow};
+ghost use Rattle.spec_base.specs.Crash.{Only, SameOutcomes, NoneNew, Follows, Elapses};
+ghost use Rattle.spec_base.specs.declared.stop.Stop.TheVariants.{Failed};
 ghost use Rattle.spec_base.specs.MemDisk.{overwritten, content_of, IsLeft, WasLeft};
-ghost use Rattle.spec_base.specs.declared.disk_call.DiskCall.TheVariants.{Write};
+ghost use Rattle.spec_base.specs.declared.disk_call.DiskCall.TheVariants.{Write, Sync};
 ghost use Rattle.spec_base.specs.MemDiskLaws.{content_is_left, now_was_left, only_last};
 
 use crate::copying::copy_front;
@@ -74,6 +78,23 @@ impl MemDisk {
     {
         self.content.as_slice()
     }
+
+    /// Counts one call, and a failure where the plan has it fail; says whether it fails.
+    fn next_fails(&mut self) -> bool
+        ensures fails { result ≡ fails_next self.old.plan }
+        ensures next { self.new ≡ record {
+          calls = self.old.calls;
+          plan = after_call self.old.plan;
+          row = if fails_next self.old.plan then min (self.old.row + 1) 2 else self.old.row;
+        } }
+        ensures count { MatchBool result (RoseByOne self.old.plan.faults self.new.plan.faults) (self.new.plan.faults ≡ self.old.plan.faults) }
+    {
+        let fails = self.plan.next_fails();
+        if fails {
+            self.row = one_more(self.row);
+        }
+        fails
+    }
 }
 
 impl Disk for MemDisk {
@@ -97,9 +118,23 @@ impl Disk for MemDisk {
 
     ghost only_now = { λ d. only_last d.calls };
 
-    fn read(&mut self, at: u64, into: &mut [u8]) -> Result<usize, Stop> {
-        if self.plan.next_fails() {
-            self.row = one_more(self.row);
+    /// It takes no memory, so it answers as the plan says.
+    fn read(&mut self, at: u64, into: &mut [u8]) -> Result<usize, Stop>
+        ensures answer { result ≡ (if fails_next self.old.plan then Err Failed
+            else Ok (min (length (drop at (content_of self.old.calls))) (length into.old))) }
+        ensures planned { self.new.plan ≡ after_call self.old.plan }
+        ensures calls { self.new.calls ≡ self.old.calls }
+        ensures untouched { OnErr result (into.new ≡ into.old) }
+        ensures fits { IfOk result (λ n. n ≤ length into.new) }
+        ensures given { IfOk result (λ n. GivesPart at n into.new (content_of self.old.calls)) }
+        ensures seen { Some (content_of self.new.calls) ≡ Some (content_of self.old.calls) }
+        ensures crash { SameOutcomes (IsLeft self.old.calls) (IsLeft self.new.calls) }
+        ensures time { Elapses (length self.old.calls) (length self.new.calls) (WasLeft self.old.calls) (WasLeft self.new.calls) (IsLeft self.new.calls) }
+        ensures count { CountsFault self.old.plan.faults self.new.plan.faults result }
+        ensures row { CountsRow self.old.row self.new.row result }
+        ensures sound { StaysSound (is_sound self.old.plan) (is_sound self.new.plan) self.old.plan.faults self.new.plan.faults }
+    {
+        if self.next_fails() {
             return Err(Stop::Failed);
         }
         self.row = 0;
@@ -108,9 +143,22 @@ impl Disk for MemDisk {
         Ok(copy_front(rest, usize::MAX, into))
     }
 
-    fn write_at(&mut self, at: u64, bytes: &[u8]) -> Result<(), Stop> {
-        if self.plan.next_fails() {
-            self.row = one_more(self.row);
+    /// It answers as the plan says, or for want of memory; at an error nothing is written.
+    fn write_at(&mut self, at: u64, bytes: &[u8]) -> Result<(), Stop>
+        ensures failed { IsErrOf result Failed ↔ IsTrue (fails_next self.old.plan) }
+        ensures planned { self.new.plan ≡ after_call self.old.plan }
+        ensures called { OnOk result (self.new.calls ≡ Write at bytes.now ∷ self.old.calls) }
+        ensures err { OnErr result (self.new.calls ≡ self.old.calls) }
+        ensures written { OnOk result (Written at bytes.now (content_of self.old.calls) (content_of self.new.calls)) }
+        ensures torn { OnErr result (Torn at (length bytes.now) (content_of self.old.calls) (content_of self.new.calls)) }
+        ensures crash { Follows (Torn at (length bytes.now)) (IsLeft self.old.calls) (IsLeft self.new.calls) }
+        ensures time { Elapses (length self.old.calls) (length self.new.calls) (WasLeft self.old.calls) (WasLeft self.new.calls) (IsLeft self.new.calls) }
+        ensures count { CountsFault self.old.plan.faults self.new.plan.faults result }
+        ensures row { CountsRow self.old.row self.new.row result }
+        ensures sound { StaysSound (is_sound self.old.plan) (is_sound self.new.plan) self.old.plan.faults self.new.plan.faults }
+    {
+        if self.next_fails() {
+            // Nothing of it is written.
             return Err(Stop::Failed);
         }
         write_down(self.alloc, &mut self.content, &mut self.calls, at, bytes)?;
@@ -118,9 +166,22 @@ impl Disk for MemDisk {
         Ok(())
     }
 
-    fn sync(&mut self) -> Result<(), Stop> {
-        if self.plan.next_fails() {
-            self.row = one_more(self.row);
+    /// It answers as the plan says, or for want of memory.
+    fn sync(&mut self) -> Result<(), Stop>
+        ensures failed { IsErrOf result Failed ↔ IsTrue (fails_next self.old.plan) }
+        ensures planned { self.new.plan ≡ after_call self.old.plan }
+        ensures called { OnOk result (self.new.calls ≡ Sync ∷ self.old.calls) }
+        ensures err { OnErr result (self.new.calls ≡ self.old.calls) }
+        ensures durable { OnOk result (Only (content_of self.old.calls) (IsLeft self.new.calls)) }
+        ensures seen { Some (content_of self.new.calls) ≡ Some (content_of self.old.calls) }
+        ensures none_new { NoneNew (IsLeft self.old.calls) (IsLeft self.new.calls) }
+        ensures crash { OnErr result (SameOutcomes (IsLeft self.old.calls) (IsLeft self.new.calls)) }
+        ensures time { Elapses (length self.old.calls) (length self.new.calls) (WasLeft self.old.calls) (WasLeft self.new.calls) (IsLeft self.new.calls) }
+        ensures count { CountsFault self.old.plan.faults self.new.plan.faults result }
+        ensures row { CountsRow self.old.row self.new.row result }
+        ensures sound { StaysSound (is_sound self.old.plan) (is_sound self.new.plan) self.old.plan.faults self.new.plan.faults }
+    {
+        if self.next_fails() {
             return Err(Stop::Failed);
         }
         self.calls.push(DiskCall::Sync)?;

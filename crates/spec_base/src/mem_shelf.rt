@@ -1,5 +1,10 @@
-ghost use Rattle.std.specs.Prelude.{◌≡◌, ◌≢◌, ◌+◌, ◌-◌, ◌^◌, ℕ, List, Some, None, min, true, false, IfOk, IfSome, IsSome, is_none, []};
-ghost use Rattle.spec_base.specs.declared.mem_shelf.MemShelf.{MemShelf as TheShelf};
+ghost use Rattle.std.specs.Prelude.{◌≡◌, ◌≢◌, ◌+◌, ◌-◌, ◌^◌, ℕ, List, Some, None, min, true, false, MatchOption, OnOk, OnErr, IfOk, IfErr, IfSome, IsSome, is_none, []};
+ghost use Rattle.spec_base.specs.Faults.{CountsFault};
+ghost use Rattle.spec_base.specs.Disk.{CountsRow};
+ghost use Rattle.spec_base.specs.Plan.{fresh_plan};
+ghost use Rattle.spec_base.specs.Shelf.{SameBut};
+ghost use Rattle.spec_base.specs.declared.stop.Stop.TheVariants.{OutOfMemory as NoMemory};
+ghost use Rattle.spec_base.specs.MemShelf.{calls_for};
 
 use crate::disk::Disk;
 use crate::mem_disk::MemDisk;
@@ -40,12 +45,15 @@ pub struct MemShelf {
 }
 
 impl MemShelf {
-    ghost use Rattle.spec_base.specs.MemShelf.{faults_of, is_out_of};
+    ghost use Rattle.spec_base.specs.MemShelf.{faults_of, row_of, is_out_of, kept_of, fails_of, calls_for};
 
     /// A shelf on which no name has a disk yet. The disk of a name will fail at the calls that `fails` has for it.
     pub fn new(alloc: Global, fails: &[DiskFail]) -> Result<MemShelf, OutOfMemory>
-        ensures faults { IfOk result (λ shelf. (name : List ℕ) → faults_of shelf name ≡ 0) }
+        ensures fails { IfOk result (λ shelf. fails_of shelf ≡ fails.now) }
+        ensures nothing_kept { IfOk result (λ shelf. (name : List ℕ) → kept_of shelf name ≡ None) }
         ensures none_out { IfOk result (λ shelf. (name : List ℕ) → is_out_of shelf name ≡ false) }
+        ensures faults { IfOk result (λ shelf. (name : List ℕ) → faults_of shelf name ≡ 0) }
+        ensures rows { IfOk result (λ shelf. (name : List ℕ) → row_of shelf name ≡ 0) }
     {
         let mut kept = Vec::with_capacity(alloc, fails.len())?;
         for fail in fails {
@@ -60,7 +68,7 @@ impl MemShelf {
 
     /// An empty disk for a name.
     fn fresh_disk(&self, name: &str) -> Result<MemDisk, OutOfMemory>
-        ensures { IfOk result (λ disk. disk.calls ≡ []) }
+        ensures { IfOk result (λ disk. disk ≡ record { calls = []; plan = fresh_plan (calls_for (fails_of self.now) name.now); row = 0 }) }
     {
         let calls = calls_of(self.alloc, &self.fails, name.as_bytes())?;
         MemDisk::new(self.alloc, &calls)
@@ -68,7 +76,9 @@ impl MemShelf {
 }
 
 /// The numbers of the calls that fail for a name.
-fn calls_of(alloc: Global, fails: &[DiskFail], name: &[u8]) -> Result<Vec<u64>, AllocError> {
+fn calls_of(alloc: Global, fails: &[DiskFail], name: &[u8]) -> Result<Vec<u64>, AllocError>
+    ensures { IfOk result (λ calls. calls.items ≡ calls_for fails.now name.now) }
+{
     let mut calls = Vec::new(alloc);
     for fail in fails {
         if fail.name.as_slice() == name {
@@ -112,7 +122,7 @@ impl Slot {
 impl Shelf for MemShelf {
     type D = MemDisk;
 
-    ghost use Rattle.spec_base.specs.MemShelf.{faults_of, row_of, given_of, is_out_of, kept_of};
+    ghost use Rattle.spec_base.specs.MemShelf.{faults_of, row_of, given_of, is_out_of, kept_of, fails_of, calls_for};
 
     ghost faults = { faults_of };
 
@@ -126,8 +136,27 @@ impl Shelf for MemShelf {
 
     ghost kept = { kept_of };
 
+    /// It never answers Failed. A new disk is to fail at the calls that the shelf has for its name.
     #[tactic(auto, using(std::proofs::lemmas::Map::Text::text_keys))]
-    fn disk(&mut self, name: &str) -> Result<MemDisk, Stop> {
+    fn disk(&mut self, name: &str) -> Result<MemDisk, Stop>
+        requires { is_out_of self.old name.now ≡ false }
+        ensures only_memory { IfErr result (λ stop. stop ≡ NoMemory) }
+        ensures fails { fails_of self.new ≡ fails_of self.old }
+        ensures disk { IfOk result (λ disk. MatchOption (kept_of self.old name.now)
+            (disk ≡ record { calls = []; plan = fresh_plan (calls_for (fails_of self.old) name.now); row = 0 })
+            (λ kept. disk ≡ kept)) }
+        ensures out { OnOk result (is_out_of self.new name.now ≡ true) }
+        ensures given { IfOk result (λ disk. given_of self.new name.now ≡ disk.plan.faults) }
+        ensures err_out { OnErr result (is_out_of self.new name.now ≡ false) }
+        ensures err_kept { OnErr result (kept_of self.new name.now ≡ kept_of self.old name.now) }
+        ensures count { CountsFault (faults_of self.old name.now) (faults_of self.new name.now) result }
+        ensures row { CountsRow (row_of self.old name.now) (row_of self.new name.now) result }
+        ensures other_faults { SameBut name.now (faults_of self.old) (faults_of self.new) }
+        ensures other_rows { SameBut name.now (row_of self.old) (row_of self.new) }
+        ensures other_out { SameBut name.now (is_out_of self.old) (is_out_of self.new) }
+        ensures other_given { SameBut name.now (given_of self.old) (given_of self.new) }
+        ensures other_kept { SameBut name.now (kept_of self.old) (kept_of self.new) }
+    {
         if let Some(slot) = self.slots.get_mut(name) {
             return Ok(slot.give());
         }
@@ -144,7 +173,19 @@ impl Shelf for MemShelf {
     }
 
     #[tactic(auto, using(std::proofs::lemmas::Map::Text::text_keys))]
-    fn back(&mut self, name: &str, disk: MemDisk) {
+    fn back(&mut self, name: &str, disk: MemDisk)
+        requires { is_out_of self.old name.now ≡ true }
+        ensures fails { fails_of self.new ≡ fails_of self.old }
+        ensures on_shelf { is_out_of self.new name.now ≡ false }
+        ensures kept { kept_of self.new name.now ≡ Some disk }
+        ensures count { faults_of self.new name.now ≡ min (faults_of self.old name.now + (disk.plan.faults - given_of self.old name.now)) (2 ^ 64 - 1) }
+        ensures row { row_of self.new name.now ≡ disk.row }
+        ensures other_faults { SameBut name.now (faults_of self.old) (faults_of self.new) }
+        ensures other_rows { SameBut name.now (row_of self.old) (row_of self.new) }
+        ensures other_out { SameBut name.now (is_out_of self.old) (is_out_of self.new) }
+        ensures other_given { SameBut name.now (given_of self.old) (given_of self.new) }
+        ensures other_kept { SameBut name.now (kept_of self.old) (kept_of self.new) }
+    {
         let Some(slot) = self.slots.get_mut(name) else {
             unreachable!()
         };

@@ -11,7 +11,8 @@ pub enum Stop {
     /// The object failed, and counted it: this answer comes only where the object's count of faults rose in this call.
     #[error("failed")]
     Failed,
-    /// Memory was refused. The object, its count too, is as before the call.
+    /// Memory was refused. The object's count of faults, and a disk's failures in a row, are as before the call. A write
+    /// to a disk that answers this may have torn its range all the same.
     #[error("out of memory")]
     OutOfMemory,
 }
