@@ -1,4 +1,5 @@
-use Rattle.std.proofs.Common.{◌≡◌, ℕ, zero, suc, ◌+◌, ◌*◌, ◌==◌, ◌||◌, true, false, List, [], ◌∷◌, ◌++◌, length, refl, sym, ap, ◌∙◌, inl, inr, arith, append-nil}
+use Rattle.std.proofs.Common.{◌≡◌, ℕ, zero, suc, ◌+◌, ◌*◌, ◌==◌, ◌||◌, true, false, List, [], ◌∷◌, ◌++◌, refl, sym, ap, ◌∙◌, inl, inr, arith, add-one, append-nil}
+use Rattle.std.specs.List.{range_with_len}
 use Rattle.std.proofs.lemmas.Bool.{cases_Bool, cond-true, cond-false, eqb-true, and_parts, or_parts, not-true}
 use Rattle.quota_table.specs.declared.rows.Row.{Row}
 use Rattle.quota_table.specs.Rows.{is_distinct, has_shard}
@@ -6,24 +7,21 @@ use Rattle.fix_ante.specs.declared.spots.Spot.{Spot}
 use Rattle.fix_ante.specs.declared.spots.Owner.{Owner}
 use Rattle.fix_ante.specs.Windows.{rows_of, start_after, spots_from, spots_without}
 use Rattle.fix_ante.specs.Layout.{owners_from, round_of, rounds_from}
-use Rattle.fix_ante.specs.Locals.{locals_of, numbers_from, quota_of}
+use Rattle.fix_ante.specs.Locals.{locals_of, quota_of}
 use Rattle.fix_ante.proofs.Successors.{start_after_here, start_after_later, spots_without_here, spots_without_other}
 
 -- ---- numbers counted up
 
-pub length-numbers_from : (n count : ℕ) → length (numbers_from n count) ≡ count
-length-numbers_from n zero = refl
-length-numbers_from n (suc count) = ap suc (length-numbers_from (suc n) count)
-
-pub numbers_from-add : (n m count : ℕ) → numbers_from n m ++ numbers_from (n + m) count ≡ numbers_from n (m + count)
-numbers_from-add n zero count =
+-- so many numbers, and the next ones after them
+pub range_with_len-append : (n m count : ℕ) → range_with_len n m ++ range_with_len (n + m) count ≡ range_with_len n (m + count)
+range_with_len-append n zero count =
     let from : n + zero ≡ n = omega arith in
     let all : zero + count ≡ count = omega arith in
     rw (from, all)
-numbers_from-add n (suc m) count =
-    let from : n + suc m ≡ suc n + m = omega arith in
+range_with_len-append n (suc m) count =
+    let from : n + suc m ≡ n + 1 + m = omega arith in
     let all : suc m + count ≡ suc (m + count) = omega arith in
-    rw (from, all) (ap (λ t. n ∷ t) (numbers_from-add (suc n) m count))
+    rw (from, all) (ap (λ t. n ∷ t) (range_with_len-append (n + 1) m count))
 
 -- ---- a shard's locals
 
@@ -41,11 +39,11 @@ locals_of-append shard (o ∷ os) ys =
       | inr other ↦ rw (locals_of_other o os shard other) (locals_of_other o (os ++ ys) shard other ∙ locals_of-append shard os ys)
     ]
 
-pub locals_of-owners_from_own : (shard other local count : ℕ) → (shard == other) ≡ true → locals_of other (owners_from shard local count) ≡ numbers_from local count
+pub locals_of-owners_from_own : (shard other local count : ℕ) → (shard == other) ≡ true → locals_of other (owners_from shard local count) ≡ range_with_len local count
 locals_of-owners_from_own shard other local zero same = refl
 locals_of-owners_from_own shard other local (suc count) same =
     locals_of_own (record { shard = shard; local = local }) (owners_from shard (suc local) count) other same
-    ∙ ap (λ t. local ∷ t) (locals_of-owners_from_own shard other (suc local) count same)
+    ∙ ap (λ t. local ∷ t) (locals_of-owners_from_own shard other (suc local) count same ∙ ap (λ n. range_with_len n count) (sym (add-one local)))
 
 pub locals_of-owners_from_other : (shard other local count : ℕ) → (shard == other) ≡ false → locals_of other (owners_from shard local count) ≡ []
 locals_of-owners_from_other shard other local zero apart = refl
@@ -82,7 +80,7 @@ absent_later s ss shard distinct same =
     ap (λ n. has_shard n (rows_of ss)) (sym (eqb-true s.shard shard same)) ∙ not-true _ parts.0
 
 -- in a round a shard has its next q locals
-pub locals_of-round_of : (spots : List Spot) (round shard : ℕ) → is_distinct (rows_of spots) ≡ true → locals_of shard (round_of spots round) ≡ numbers_from (start_after spots round shard) (quota_of spots shard)
+pub locals_of-round_of : (spots : List Spot) (round shard : ℕ) → is_distinct (rows_of spots) ≡ true → locals_of shard (round_of spots round) ≡ range_with_len (start_after spots round shard) (quota_of spots shard)
 locals_of-round_of [] round shard distinct = refl
 locals_of-round_of (s ∷ ss) round shard distinct =
     let own = owners_from s.shard (s.start + round * s.quota) s.quota in
@@ -112,7 +110,7 @@ start_after-add (s ∷ ss) m n shard =
     ]
 
 -- in so many rounds a shard has its next locals, one after another
-pub locals_of-rounds_from : (spots : List Spot) (round count shard : ℕ) → is_distinct (rows_of spots) ≡ true → locals_of shard (rounds_from spots round count) ≡ numbers_from (start_after spots round shard) (count * quota_of spots shard)
+pub locals_of-rounds_from : (spots : List Spot) (round count shard : ℕ) → is_distinct (rows_of spots) ≡ true → locals_of shard (rounds_from spots round count) ≡ range_with_len (start_after spots round shard) (count * quota_of spots shard)
 locals_of-rounds_from spots round zero shard distinct =
     let none : zero * quota_of spots shard ≡ zero = omega arith in
     rw none
@@ -125,8 +123,8 @@ locals_of-rounds_from spots round (suc count) shard distinct =
     rw all
     (locals_of-append shard (round_of spots round) (rounds_from spots (suc round) count)
     ∙ ap (λ t. t ++ locals_of shard (rounds_from spots (suc round) count)) (locals_of-round_of spots round shard distinct)
-    ∙ ap (λ t. numbers_from from q ++ t) (locals_of-rounds_from spots (suc round) count shard distinct ∙ ap (λ n. numbers_from n (count * q)) next)
-    ∙ numbers_from-add from q (count * q))
+    ∙ ap (λ t. range_with_len from q ++ t) (locals_of-rounds_from spots (suc round) count shard distinct ∙ ap (λ n. range_with_len n (count * q)) next)
+    ∙ range_with_len-append from q (count * q))
 
 -- ---- where the locals of a window that follows go on
 

@@ -1,7 +1,7 @@
 ghost use Rattle.std.specs.Prelude.{◌≡◌, ◌<◌, ◌≤◌, ◌↔◌, ◌^◌, Some, IfSome, IsSome};
 ghost use Rattle.fix_ante.specs.Windows.{end_of};
 ghost use Rattle.fix_ante.specs.Layout.{place_of, owner_of};
-ghost use Rattle.fix_ante.specs.Positions.{position_of, index_in, index_among, owner_among};
+ghost use Rattle.fix_ante.specs.Positions.{index_in, index_among, owner_among};
 
 use crate::spots::{Owner, Spot};
 use crate::window::Window;
@@ -9,10 +9,8 @@ use crate::window::Window;
 /// The position of a shard's local in the window.
 /// None exactly where the shard is not a row, or the local is before the row's start or after its last round.
 pub fn place(window: &Window, shard: u8, local: u64) -> Option<u64>
-    // The index in the window laid out, and the same by the rule of quotas.
+    // The index in the window laid out.
     ensures place { result ≡ place_of window.now shard local }
-    ensures position { result ≡ position_of window.now shard local }
-
     ensures within { IfSome result (λ p. (window.now.base ≤ p) × (p < end_of window.now)) }
     ensures owner { IfSome result (λ p. owner_of window.now p ≡ Some (record { shard = shard; local = local })) }
 {
@@ -30,6 +28,7 @@ pub fn owner(window: &Window, position: u64) -> Option<Owner>
     ensures owner { result ≡ owner_of window.now position }
     ensures within { IsSome result ↔ ((window.now.base ≤ position) × (position < end_of window.now)) }
     ensures place { IfSome result (λ o. place_of window.now o.shard o.local ≡ Some position) }
+    ensures limits { IfSome result (λ o. (o.shard < 6) × (o.local ≤ position)) }
 {
     let ahead = position.checked_sub(window.base())?;
     let width = u64::from(window.width());

@@ -33,6 +33,7 @@ fn places_and_owners(rt: HostRuntime) {
     assert!(rt; is_window(&window, 0, 0, 4, &[spot(0, 2, 0), spot(1, 3, 0)]));
     assert_eq!(rt; window.width(), 5);
     assert_eq!(rt; window.end(), 20);
+    assert!(rt; window.table() == table(&rt, &[asked(0, 2), asked(1, 3)]));
     for (shard, local, position) in [
         (0, 0, 0),
         (0, 1, 1),

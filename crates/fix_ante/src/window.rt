@@ -1,10 +1,10 @@
 ghost use Rattle.std.specs.Prelude.{◌≡◌, ◌<◌, ◌≤◌, ◌^◌, ℕ, IsTrue, length, slice_index};
 ghost use Rattle.std.specs.List.{All};
-ghost use Rattle.fix_ante.specs.Windows.{IsWindow, IsSpot, has_row, width_of, end_of, first_of, next_of, without_of, start_after};
+ghost use Rattle.fix_ante.specs.Windows.{IsWindow, IsSpot, rows_of, has_row, width_of, end_of, first_of, next_of, without_of, start_after};
 
 use crate::spots::Spot;
 use arrayvec::ArrayVec;
-use quota_table::Table;
+use quota_table::{Row, Table};
 use std::alloc::AllocError;
 use std::marker::Model;
 
@@ -90,6 +90,20 @@ impl Window {
         ensures valid { IsWindow self.now }
     {
         self.spots.as_slice()
+    }
+
+    /// The rows without their starts: the table that the window was laid out from. It takes no memory.
+    pub fn table(&self) -> Table
+        ensures { result ≡ rows_of self.now.spots }
+    {
+        let mut rows = ArrayVec::new();
+        for spot in self.spots() {
+            rows.push(Row {
+                shard: spot.shard,
+                quota: spot.quota,
+            });
+        }
+        Table::of(rows)
     }
 
     /// Whether one of the rows is this shard's.

@@ -4,6 +4,7 @@ use Rattle.fix_ante.specs.declared.spots.Owner.{Owner}
 use Rattle.fix_ante.specs.Windows.{width_of, end_of}
 use Rattle.fix_ante.specs.Layout.{place_of, owner_of}
 use Rattle.fix_ante.proofs.PositionLemmas.{owner_of_past, end_of_round, owner_of_outside, owner_of_within, owner_of_some, place_of-owner_of}
+use Rattle.fix_ante.proofs.OwnerLemmas.{owner_of-limits}
 use Rattle.fix_ante.proofs.positions.owner.Goals as goal
 
 pub returns-then-round-from-clause-owner : goal.returns-then-round-from-clause-owner
@@ -43,3 +44,8 @@ pub returns-clause-place : goal.returns-clause-place
 returns-clause-place c =
     let w = c.args.window.now in
     subst (λ o. IfSome o (λ (o : Owner). place_of w o.shard o.local ≡ Some c.args.position)) (found c).2 (place_of-owner_of w c.args.position c.base.ensures.valid)
+
+pub returns-clause-limits : goal.returns-clause-limits
+returns-clause-limits c =
+    let w = c.args.window.now in
+    subst (λ o. IfSome o (λ (o : Owner). (o.shard < 6) × (o.local ≤ c.args.position))) (found c).2 (owner_of-limits w c.args.position c.base.ensures.valid)
