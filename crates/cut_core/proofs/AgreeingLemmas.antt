@@ -12,11 +12,11 @@ use Rattle.cut_core.specs.declared.effects.Reason.{Reason}
 use Rattle.cut_core.specs.declared.effects.Reason.TheVariants.{WrongWindow, WrongRound, NoGrant, NotARow}
 use Rattle.cut_core.specs.Agreements.{Agreement, is_last_round}
 use Rattle.cut_core.specs.Reasons.{grant_fault, granted_fault, fault_of}
-use Rattle.cut_core.specs.Fold.{with_round, open_granted, after_cut, after_entry, unless_void, applied, applied_all, IsValidEntry}
+use Rattle.cut_core.specs.Fold.{with_round, open_granted, after_cut, after_entry, unless_void, applied, applied_all, HasValidTable}
 use Rattle.cut_core.specs.Effects.{effect_where_fit, void_or, effect_of}
 use Rattle.cut_core.specs.Map.{map_of, mapped, located}
 use Rattle.cut_core.specs.Agreeing.{IsBelowFirst, IsBelowFirsts}
-use Rattle.cut_core.proofs.Kept.{IsSound}
+use Rattle.cut_core.specs.Soundness.{IsSound}
 use Rattle.cut_core.proofs.Sound.{no_fault, IsSound-applied}
 use Rattle.cut_core.proofs.Maps.{map-round, map-opened, map-table, map-remove}
 
@@ -106,7 +106,7 @@ both_within xs ys p e h =
     ]
 
 -- after more entries the map agrees at a position below the first of every removal between
-pub mapped-applied_all : (a : Agreement) (entries : List Entry) (p : ℕ) → IsSound a → a.slots + length entries ≤ 1000000 → AllByRecursion IsValidEntry entries → p < length (map_of a) → IsBelowFirsts a entries p → (p < length (map_of (applied_all a entries))) × (mapped (applied_all a entries) p ≡ mapped a p)
+pub mapped-applied_all : (a : Agreement) (entries : List Entry) (p : ℕ) → IsSound a → a.slots + length entries ≤ 1000000 → AllByRecursion HasValidTable entries → p < length (map_of a) → IsBelowFirsts a entries p → (p < length (map_of (applied_all a entries))) × (mapped (applied_all a entries) p ≡ mapped a p)
 mapped-applied_all a [] p is few valid within below = (within, refl)
 mapped-applied_all a (entry ∷ entries) p is few valid within below =
     let one = mapped-applied a entry p is within below.0 in
@@ -117,3 +117,8 @@ mapped-applied_all a (entry ∷ entries) p is few valid within below =
 pub slots-applied_all : (a : Agreement) (entries : List Entry) → (applied_all a entries).slots ≡ a.slots + length entries
 slots-applied_all a [] = omega arith
 slots-applied_all a (entry ∷ entries) = slots-applied_all (applied a entry) entries ∙ omega arith
+
+-- one entry more at the end
+pub applied_all-push : (a : Agreement) (entries : List Entry) (entry : Entry) → applied_all a (entries ++ entry ∷ []) ≡ applied (applied_all a entries) entry
+applied_all-push a [] entry = refl
+applied_all-push a (first ∷ entries) entry = applied_all-push (applied a first) entries entry

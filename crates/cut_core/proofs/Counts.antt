@@ -1,15 +1,16 @@
 use Rattle.std.proofs.Common.{◌≡◌, ℕ, ◌+◌, ◌*◌, ◌==◌, ◌||◌, Bool, true, false, List, [], ◌∷◌, ◌++◌, length, map, refl, sym, ap, ◌∙◌, inl, inr, arith, append-nil, length-append}
-use Rattle.std.specs.List.{list_any, filter}
+use Rattle.std.specs.List.{list_any, filter, range_with_len}
 use Rattle.std.proofs.lemmas.Bool.{cases_Bool, cond-true, cond-false, or_left, or_right, or_from, both_ways}
 use Rattle.std.proofs.lemmas.List.Folds.{list_any-append}
+use Rattle.std.proofs.lemmas.List.FromFn.{length-range_with_len}
 use Rattle.quota_table.specs.Rows.{is_distinct}
 use Rattle.fix_ante.specs.declared.spots.Spot.{Spot}
 use Rattle.fix_ante.specs.declared.spots.Owner.{Owner}
 use Rattle.fix_ante.specs.Windows.{rows_of, has_row, start_after}
 use Rattle.fix_ante.specs.Layout.{rounds_from}
-use Rattle.fix_ante.specs.Locals.{locals_of, numbers_from, quota_of}
+use Rattle.fix_ante.specs.Locals.{locals_of, quota_of}
 use Rattle.fix_ante.proofs.Successors.{has_row-rows_of}
-use Rattle.fix_ante.proofs.LocalLemmas.{length-numbers_from, numbers_from-add, locals_of-append, locals_of-rounds_from, absent_row}
+use Rattle.fix_ante.proofs.LocalLemmas.{range_with_len-append, locals_of-append, locals_of-rounds_from, absent_row}
 use Rattle.cut_core.specs.Agreements.{Gone, count_of}
 
 -- a shard that is no row has no positions in a round
@@ -21,31 +22,31 @@ pub start_after-absent : (spots : List Spot) (rounds shard : ℕ) → has_row sh
 start_after-absent spots rounds shard h = (absent_row spots rounds shard (sym (has_row-rows_of shard spots) ∙ h)).1
 
 -- some rounds more
-pub locals_of-more : (shard : ℕ) (owners : List Owner) (spots : List Spot) (round count : ℕ) → is_distinct (rows_of spots) ≡ true → locals_of shard (owners ++ rounds_from spots round count) ≡ locals_of shard owners ++ numbers_from (start_after spots round shard) (count * quota_of spots shard)
+pub locals_of-more : (shard : ℕ) (owners : List Owner) (spots : List Spot) (round count : ℕ) → is_distinct (rows_of spots) ≡ true → locals_of shard (owners ++ rounds_from spots round count) ≡ locals_of shard owners ++ range_with_len (start_after spots round shard) (count * quota_of spots shard)
 locals_of-more shard owners spots round count distinct =
     locals_of-append shard owners (rounds_from spots round count) ∙ ap (λ t. locals_of shard owners ++ t) (locals_of-rounds_from spots round count shard distinct)
 
 pub count_of-more : (shard : ℕ) (owners : List Owner) (spots : List Spot) (round count : ℕ) → is_distinct (rows_of spots) ≡ true → count_of shard (owners ++ rounds_from spots round count) ≡ count_of shard owners + count * quota_of spots shard
 count_of-more shard owners spots round count distinct =
     ap length (locals_of-more shard owners spots round count distinct)
-    ∙ length-append (locals_of shard owners) (numbers_from (start_after spots round shard) (count * quota_of spots shard))
-    ∙ ap (λ n. count_of shard owners + n) (length-numbers_from (start_after spots round shard) (count * quota_of spots shard))
+    ∙ length-append (locals_of shard owners) (range_with_len (start_after spots round shard) (count * quota_of spots shard))
+    ∙ ap (λ n. count_of shard owners + n) (length-range_with_len (start_after spots round shard) (count * quota_of spots shard))
 
 -- numbers without a gap stay so where the next go on
-pub dense-more : (have next : List ℕ) (from count : ℕ) → have ≡ numbers_from 0 (length have) → next ≡ numbers_from from count → from ≡ length have → have ++ next ≡ numbers_from 0 (length (have ++ next))
+pub dense-more : (have next : List ℕ) (from count : ℕ) → have ≡ range_with_len 0 (length have) → next ≡ range_with_len from count → from ≡ length have → have ++ next ≡ range_with_len 0 (length (have ++ next))
 dense-more have next from count dense is goes =
-    let size : length (have ++ next) ≡ length have + count = length-append have next ∙ ap (λ n. length have + n) (ap length is ∙ length-numbers_from from count) in
+    let size : length (have ++ next) ≡ length have + count = length-append have next ∙ ap (λ n. length have + n) (ap length is ∙ length-range_with_len from count) in
     let at : 0 + length have ≡ length have = omega arith in
-    ap (λ t. have ++ t) (is ∙ ap (λ n. numbers_from n count) (goes ∙ sym at))
-    ∙ ap (λ t. t ++ numbers_from (0 + length have) count) dense
-    ∙ numbers_from-add 0 (length have) count
-    ∙ ap (numbers_from 0) (sym size)
+    ap (λ t. have ++ t) (is ∙ ap (λ n. range_with_len n count) (goes ∙ sym at))
+    ∙ ap (λ t. t ++ range_with_len (0 + length have) count) dense
+    ∙ range_with_len-append 0 (length have) count
+    ∙ ap (range_with_len 0) (sym size)
 
 -- nothing more leaves them as they are
-pub dense-none : (have next : List ℕ) → have ≡ numbers_from 0 (length have) → next ≡ [] → have ++ next ≡ numbers_from 0 (length (have ++ next))
+pub dense-none : (have next : List ℕ) → have ≡ range_with_len 0 (length have) → next ≡ [] → have ++ next ≡ range_with_len 0 (length (have ++ next))
 dense-none have next dense none =
     let all : have ++ next ≡ have = ap (λ t. have ++ t) none ∙ append-nil have in
-    all ∙ (dense ∙ ap (λ t. numbers_from 0 (length t)) (sym all))
+    all ∙ (dense ∙ ap (λ t. range_with_len 0 (length t)) (sym all))
 
 -- one of two lists of gone shards
 pub gone-append : (shard : ℕ) (xs ys : List Gone) → list_any (λ (g : Gone). g.shard == shard) (xs ++ ys) ≡ (list_any (λ (g : Gone). g.shard == shard) xs || list_any (λ (g : Gone). g.shard == shard) ys)

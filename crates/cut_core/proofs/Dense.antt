@@ -1,41 +1,42 @@
 use Rattle.std.proofs.Common.{◌≡◌, ℕ, zero, suc, ◌+◌, ◌-◌, ◌*◌, ◌≤◌, ◌==◌, ◌&&◌, true, false, List, [], ◌∷◌, ◌++◌, length, Option, Some, None, refl, sym, ap, ◌∙◌, inl, inr, arith, append_assoc}
-use Rattle.std.specs.List.{slice_get}
+use Rattle.std.specs.List.{slice_get, range_with_len}
 use Rattle.std.specs.Option.{option_map}
 use Rattle.std.proofs.lemmas.Bool.{cases_Bool, cond-true, cond-false, eqb-true, eq-eqb, and_parts, both_ways}
 use Rattle.fix_ante.specs.declared.spots.Owner.{Owner}
 use Rattle.fix_ante.specs.Windows.{Window, has_row, start_after}
 use Rattle.fix_ante.specs.Layout.{rounds_from, layout_of, index_of}
-use Rattle.fix_ante.specs.Locals.{locals_of, numbers_from, quota_of}
+use Rattle.fix_ante.specs.Locals.{locals_of, quota_of}
 use Rattle.fix_ante.proofs.LocalLemmas.{locals_of-append, locals_of-rounds_from, start_after-add}
 use Rattle.cut_core.specs.Agreements.{Agreement, count_of, is_gone}
 use Rattle.cut_core.specs.Map.{rest_of, granted_layout, map_of, mapped, leased, located, placed}
 use Rattle.cut_core.proofs.Counts.{quota_of-absent, dense-more, dense-none, count_of-more}
-use Rattle.cut_core.proofs.Kept.{IsSound, MayBeGrant, gone-row}
+use Rattle.cut_core.specs.Soundness.{IsSound, MayBeGrant}
+use Rattle.cut_core.proofs.Kept.{gone-row}
 
 -- a shard's locals are 0, 1, 2 and so on
 abbrev pub IsDense : ℕ → List Owner → Type 0
-IsDense shard owners = locals_of shard owners ≡ numbers_from 0 (count_of shard owners)
+IsDense shard owners = locals_of shard owners ≡ range_with_len 0 (count_of shard owners)
 
 -- owners that go on where those before stop
-dense-append : (shard : ℕ) (xs ys : List Owner) (from count : ℕ) → IsDense shard xs → locals_of shard ys ≡ numbers_from from count → from ≡ count_of shard xs → IsDense shard (xs ++ ys)
+dense-append : (shard : ℕ) (xs ys : List Owner) (from count : ℕ) → IsDense shard xs → locals_of shard ys ≡ range_with_len from count → from ≡ count_of shard xs → IsDense shard (xs ++ ys)
 dense-append shard xs ys from count dense next goes =
     let joined = locals_of-append shard xs ys in
-    joined ∙ dense-more (locals_of shard xs) (locals_of shard ys) from count dense next goes ∙ ap (λ t. numbers_from 0 (length t)) (sym joined)
+    joined ∙ dense-more (locals_of shard xs) (locals_of shard ys) from count dense next goes ∙ ap (λ t. range_with_len 0 (length t)) (sym joined)
 
 -- owners of other shards
 dense-others : (shard : ℕ) (xs ys : List Owner) → IsDense shard xs → locals_of shard ys ≡ [] → IsDense shard (xs ++ ys)
 dense-others shard xs ys dense none =
     let joined = locals_of-append shard xs ys in
-    joined ∙ dense-none (locals_of shard xs) (locals_of shard ys) dense none ∙ ap (λ t. numbers_from 0 (length t)) (sym joined)
+    joined ∙ dense-none (locals_of shard xs) (locals_of shard ys) dense none ∙ ap (λ t. range_with_len 0 (length t)) (sym joined)
 
 -- no locals where no row is the shard's
-absent-rounds : (a : Window) (round count shard : ℕ) → locals_of shard (rounds_from a.spots round count) ≡ numbers_from (start_after a.spots round shard) (count * quota_of a.spots shard) → has_row shard a.spots ≡ false → locals_of shard (rounds_from a.spots round count) ≡ []
+absent-rounds : (a : Window) (round count shard : ℕ) → locals_of shard (rounds_from a.spots round count) ≡ range_with_len (start_after a.spots round shard) (count * quota_of a.spots shard) → has_row shard a.spots ≡ false → locals_of shard (rounds_from a.spots round count) ≡ []
 absent-rounds a round count shard is none =
     let zero_quota = quota_of-absent a.spots shard none in
     let nothing : count * quota_of a.spots shard ≡ zero = ap (λ n. count * n) zero_quota ∙ omega arith in
-    is ∙ ap (numbers_from (start_after a.spots round shard)) nothing
+    is ∙ ap (range_with_len (start_after a.spots round shard)) nothing
 
-rest-locals : (a : Agreement) (shard : ℕ) → IsSound a → locals_of shard (rest_of a) ≡ numbers_from (start_after a.current.spots a.rounds shard) ((a.current.rounds - a.rounds) * quota_of a.current.spots shard)
+rest-locals : (a : Agreement) (shard : ℕ) → IsSound a → locals_of shard (rest_of a) ≡ range_with_len (start_after a.current.spots a.rounds shard) ((a.current.rounds - a.rounds) * quota_of a.current.spots shard)
 rest-locals a shard is = locals_of-rounds_from a.current.spots a.rounds (a.current.rounds - a.rounds) shard is.window.table.distinct
 
 -- the covered owners and the rest of the window
@@ -69,7 +70,7 @@ granted-dense a (Some w) shard is grant =
 pub map-dense : (a : Agreement) (shard : ℕ) → IsSound a → IsDense shard (map_of a)
 map-dense a shard is =
     let e = append_assoc a.covered (rest_of a) (granted_layout a.granted) in
-    ap (locals_of shard) (sym e) ∙ granted-dense a a.granted shard is is.grant ∙ ap (λ t. numbers_from 0 (count_of shard t)) e
+    ap (locals_of shard) (sym e) ∙ granted-dense a a.granted shard is is.grant ∙ ap (λ t. range_with_len 0 (count_of shard t)) e
 
 -- ---- indices and entries where locals are dense
 
@@ -99,29 +100,29 @@ slice_get-index_of (o ∷ os) shard local i e =
     ]
 
 -- below the first local there is none
-numbers_from-head : (n count x : ℕ) (xs : List ℕ) → x ∷ xs ≡ numbers_from n count → (less : ℕ) × (count ≡ suc less) × (x ≡ n) × (xs ≡ numbers_from (suc n) less)
-numbers_from-head n zero x xs e = absurd (cc)
-numbers_from-head n (suc count) x xs e = (count, refl, cc, cc)
+pub range_with_len-head : (n count x : ℕ) (xs : List ℕ) → x ∷ xs ≡ range_with_len n count → (less : ℕ) × (count ≡ suc less) × (x ≡ n) × (xs ≡ range_with_len (n + 1) less)
+range_with_len-head n zero x xs e = absurd (cc)
+range_with_len-head n (suc count) x xs e = (count, refl, cc, cc)
 
 -- an owner that stands somewhere isn't below the first of its shard's locals
-local_from : (os : List Owner) (shard local i n count : ℕ) → locals_of shard os ≡ numbers_from n count → slice_get os i ≡ Some (record { shard = shard; local = local }) → n ≤ local
+pub local_from : (os : List Owner) (shard local i n count : ℕ) → locals_of shard os ≡ range_with_len n count → slice_get os i ≡ Some (record { shard = shard; local = local }) → n ≤ local
 local_from [] shard local i n count dense e = absurd (cc)
 local_from (o ∷ os) shard local zero n count dense e =
     let same : o.shard ≡ shard = cc in
     let is : o.local ≡ local = cc in
-    let head = numbers_from-head n count o.local (locals_of shard os) (sym (cond-true _ _ _ (eq-eqb o.shard shard same)) ∙ dense) in
+    let head = range_with_len-head n count o.local (locals_of shard os) (sym (cond-true _ _ _ (eq-eqb o.shard shard same)) ∙ dense) in
     omega (arith, head.2)
 local_from (o ∷ os) shard local (suc i) n count dense e =
     elim (cases_Bool (o.shard == shard)) [
       | inl same ↦
-          let head = numbers_from-head n count o.local (locals_of shard os) (sym (cond-true _ _ _ same) ∙ dense) in
-          let later = local_from os shard local i (suc n) head.0 head.3 e in
+          let head = range_with_len-head n count o.local (locals_of shard os) (sym (cond-true _ _ _ same) ∙ dense) in
+          let later = local_from os shard local i (n + 1) head.0 head.3 e in
           omega arith
       | inr other ↦ local_from os shard local i n count (sym (cond-false _ _ _ other) ∙ dense) e
     ]
 
 -- an owner's index is where it stands, where its shard's locals are dense
-pub index_of-dense : (os : List Owner) (shard local i n count : ℕ) → locals_of shard os ≡ numbers_from n count → slice_get os i ≡ Some (record { shard = shard; local = local }) → index_of os shard local ≡ Some i
+pub index_of-dense : (os : List Owner) (shard local i n count : ℕ) → locals_of shard os ≡ range_with_len n count → slice_get os i ≡ Some (record { shard = shard; local = local }) → index_of os shard local ≡ Some i
 index_of-dense [] shard local i n count dense e = absurd (cc)
 index_of-dense (o ∷ os) shard local zero n count dense e =
     let same : o.shard ≡ shard = cc in
@@ -132,11 +133,11 @@ index_of-dense (o ∷ os) shard local zero n count dense e =
 index_of-dense (o ∷ os) shard local (suc i) n count dense e =
     elim (cases_Bool (o.shard == shard)) [
       | inl same ↦
-          let head = numbers_from-head n count o.local (locals_of shard os) (sym (cond-true _ _ _ same) ∙ dense) in
-          let later = local_from os shard local i (suc n) head.0 head.3 e in
+          let head = range_with_len-head n count o.local (locals_of shard os) (sym (cond-true _ _ _ same) ∙ dense) in
+          let later = local_from os shard local i (n + 1) head.0 head.3 e in
           elim (cases_Bool ((o.shard == shard) && (o.local == local))) [
             | inl both ↦ let parts = same_test o shard local both in absurd (omega (arith, head.2, parts.1))
-            | inr other ↦ cond-false _ _ _ other ∙ ap (option_map suc) (index_of-dense os shard local i (suc n) head.0 head.3 e)
+            | inr other ↦ cond-false _ _ _ other ∙ ap (option_map suc) (index_of-dense os shard local i (n + 1) head.0 head.3 e)
           ]
       | inr other ↦
           elim (cases_Bool ((o.shard == shard) && (o.local == local))) [

@@ -1,6 +1,7 @@
 use Rattle.std.proofs.Common.{◌≡◌, ℕ, ◌+◌, ◌*◌, ◌<◌, ◌≤◌, ◌==◌, true, false, not, List, [], ◌∷◌, length, Option, Some, None, refl, sym, ap, ◌∙◌, inl, inr, arith, add-zero, length-append}
-use Rattle.std.specs.List.{list_any}
+use Rattle.std.specs.List.{list_any, range_with_len}
 use Rattle.std.proofs.lemmas.Bool.{cases_Bool, eqb-true, or_parts, or_from, not_from_false, not_from_true, both_ways}
+use Rattle.std.proofs.lemmas.List.FromFn.{length-range_with_len}
 use Rattle.std.proofs.lemmas.Nat.{mul-le}
 use Rattle.quota_table.specs.declared.rows.Row.{Row}
 use Rattle.quota_table.specs.Rows.{IsTable, has_shard}
@@ -8,36 +9,15 @@ use Rattle.quota_table.proofs.TableLemmas.{quotas_of-table}
 use Rattle.fix_ante.specs.declared.spots.Spot.{Spot}
 use Rattle.fix_ante.specs.Windows.{Window, IsWindow, rows_of, has_row, width_of, end_of, spots_from, start_after, first_of, spots_without}
 use Rattle.fix_ante.specs.Layout.{round_of}
-use Rattle.fix_ante.specs.Locals.{locals_of, numbers_from, quota_of}
+use Rattle.fix_ante.specs.Locals.{locals_of, quota_of}
 use Rattle.fix_ante.proofs.WindowLemmas.{rows_of-spots_from, IsWindow-first_of}
 use Rattle.fix_ante.proofs.LayoutLemmas.{length-round_of}
 use Rattle.fix_ante.proofs.Successors.{has_row-rows_of, left-spots_without, absent-spots_without, IsWindow-next_of, IsWindow-without_of}
-use Rattle.fix_ante.proofs.LocalLemmas.{length-numbers_from, locals_of-append, locals_of-round_of, start_after-add, start_after-spots_from, start_after-spots_without}
+use Rattle.fix_ante.proofs.LocalLemmas.{locals_of-append, locals_of-round_of, start_after-add, start_after-spots_from, start_after-spots_without}
 use Rattle.cut_core.specs.Agreements.{Agreement, Gone, agreement_from, count_of, is_gone}
+use Rattle.cut_core.specs.Soundness.{IsGrant, MayBeGrant, IsSound}
 use Rattle.cut_core.specs.Fold.{with_round, dropped_rows, opened, after_table, after_remove}
 use Rattle.cut_core.proofs.Counts.{quota_of-absent, start_after-absent, dense-more, dense-none, gone-append, kept_row, undropped_row}
-
--- a granted window follows all rounds of the current one, and no shard of it is gone
-pub record IsGrant (a : Agreement) (w : Window) : Type 0 where
-  pub window : IsWindow w
-  pub base : w.base ≡ end_of a.current
-  pub starts : (shard : ℕ) → has_row shard w.spots ≡ true → start_after w.spots 0 shard ≡ start_after a.current.spots a.current.rounds shard
-  pub stays : (shard : ℕ) → has_row shard w.spots ≡ true → is_gone a shard ≡ false
-
-abbrev pub MayBeGrant : Agreement → Option Window → Type 0
-MayBeGrant a None = Unit {0}
-MayBeGrant a (Some w) = IsGrant a w
-
--- what every list of entries leaves
-pub record IsSound (a : Agreement) : Type 0 where
-  pub window : IsWindow a.current
-  pub short : a.rounds < a.current.rounds
-  pub covered : length a.covered ≡ a.current.base + a.rounds * width_of a.current
-  pub starts : (shard : ℕ) → is_gone a shard ≡ false → start_after a.current.spots a.rounds shard ≡ count_of shard a.covered
-  pub dense : (shard : ℕ) → locals_of shard a.covered ≡ numbers_from 0 (count_of shard a.covered)
-  pub rows : (shard : ℕ) → has_row shard a.current.spots ≡ true → is_gone a shard ≡ false
-  pub grant : MayBeGrant a a.granted
-  pub reach : a.current.base ≤ 393216 * a.slots
 
 -- a gone shard is no row
 pub gone-row : (a : Agreement) → ((shard : ℕ) → has_row shard a.current.spots ≡ true → is_gone a shard ≡ false) → (shard : ℕ) → is_gone a shard ≡ true → has_row shard a.current.spots ≡ false
@@ -81,7 +61,7 @@ count_of-round a shard is =
     let round = round_of a.current.spots a.rounds in
     ap length (locals_of-append shard a.covered round)
     ∙ length-append (locals_of shard a.covered) (locals_of shard round)
-    ∙ ap (λ n. count_of shard a.covered + n) (ap length (locals_of-round_of a.current.spots a.rounds shard is.window.table.distinct) ∙ length-numbers_from (start_after a.current.spots a.rounds shard) (quota_of a.current.spots shard))
+    ∙ ap (λ n. count_of shard a.covered + n) (ap length (locals_of-round_of a.current.spots a.rounds shard is.window.table.distinct) ∙ length-range_with_len (start_after a.current.spots a.rounds shard) (quota_of a.current.spots shard))
 
 pub covered-round : (a : Agreement) → IsSound a → length (with_round a).covered ≡ a.current.base + (a.rounds + 1) * width_of a.current
 covered-round a is =
@@ -95,7 +75,7 @@ starts-round a shard is stays =
     let count = count_of-round a shard is in
     omega arith
 
-pub dense-round : (a : Agreement) (shard : ℕ) → IsSound a → locals_of shard (with_round a).covered ≡ numbers_from 0 (count_of shard (with_round a).covered)
+pub dense-round : (a : Agreement) (shard : ℕ) → IsSound a → locals_of shard (with_round a).covered ≡ range_with_len 0 (count_of shard (with_round a).covered)
 dense-round a shard is =
     let have = locals_of shard a.covered in
     let next = locals_of shard (round_of a.current.spots a.rounds) in
@@ -104,9 +84,9 @@ dense-round a shard is =
     elim (cases_Bool (is_gone a shard)) [
       | inl gone ↦
           let absent = quota_of-absent a.current.spots shard (gone-row a is.rows shard gone) in
-          joined ∙ dense-none have next (is.dense shard) (numbers ∙ ap (numbers_from (start_after a.current.spots a.rounds shard)) absent) ∙ ap (λ t. numbers_from 0 (length t)) (sym joined)
+          joined ∙ dense-none have next (is.dense shard) (numbers ∙ ap (range_with_len (start_after a.current.spots a.rounds shard)) absent) ∙ ap (λ t. range_with_len 0 (length t)) (sym joined)
       | inr stays ↦
-          joined ∙ dense-more have next (start_after a.current.spots a.rounds shard) (quota_of a.current.spots shard) (is.dense shard) numbers (is.starts shard stays) ∙ ap (λ t. numbers_from 0 (length t)) (sym joined)
+          joined ∙ dense-more have next (start_after a.current.spots a.rounds shard) (quota_of a.current.spots shard) (is.dense shard) numbers (is.starts shard stays) ∙ ap (λ t. range_with_len 0 (length t)) (sym joined)
     ]
 
 -- a grant stays one while the current window and the gone shards stay

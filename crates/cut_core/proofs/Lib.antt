@@ -5,3 +5,15 @@ pub mod Sound
 pub mod Maps
 pub mod AgreeingLemmas
 pub mod Dense
+pub mod Finding
+pub mod Pasts
+pub mod Ends
+pub mod Follows
+pub mod Reach
+pub mod Entries
+pub mod Standing
+pub mod Indices
+pub mod Parts
+pub mod Numbers
+pub mod GoneEnds
+pub mod Consistent

@@ -13,7 +13,7 @@ use Rattle.fix_ante.proofs.MoveLemmas.{quotas_before-le, owner_among-before, own
 use Rattle.cut_core.specs.Agreements.{Agreement}
 use Rattle.cut_core.specs.Fold.{with_round, opened, after_remove}
 use Rattle.cut_core.specs.Map.{rest_of, granted_layout, map_of, mapped}
-use Rattle.cut_core.proofs.Kept.{IsSound}
+use Rattle.cut_core.specs.Soundness.{IsSound}
 
 -- the rest of a window is its next round, and what is left then
 pub rest-round : (a : Agreement) → a.rounds < a.current.rounds → rest_of a ≡ round_of a.current.spots a.rounds ++ rounds_from a.current.spots (a.rounds + 1) (a.current.rounds - (a.rounds + 1))

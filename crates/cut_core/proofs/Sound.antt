@@ -11,8 +11,9 @@ use Rattle.cut_core.specs.declared.effects.Reason.{Reason}
 use Rattle.cut_core.specs.declared.effects.Reason.TheVariants.{WrongWindow, WrongRound, NoGrant, NotARow, LastShard}
 use Rattle.cut_core.specs.Agreements.{Agreement, agreement_from, is_gone, gone_row, is_last_round}
 use Rattle.cut_core.specs.Reasons.{grant_fault, gone_fault, granted_fault, fault_of}
-use Rattle.cut_core.specs.Fold.{with_round, open_granted, after_cut, after_entry, unless_void, applied, applied_all, fold_of, IsValidEntry}
-use Rattle.cut_core.proofs.Kept.{IsSound, MayBeGrant, IsSound-first, IsSound-round, IsSound-opened, IsSound-table, IsSound-remove, IsSound-passed}
+use Rattle.cut_core.specs.Fold.{with_round, open_granted, after_cut, after_entry, unless_void, applied, applied_all, fold_of, HasValidTable}
+use Rattle.cut_core.specs.Soundness.{MayBeGrant, IsSound}
+use Rattle.cut_core.proofs.Kept.{IsSound-first, IsSound-round, IsSound-opened, IsSound-table, IsSound-remove, IsSound-passed}
 
 -- ---- what it means that there is no fault
 
@@ -20,15 +21,15 @@ pub no_fault : (b : Bool) (r : Reason) (later : Option Reason) → (if b then So
 no_fault true r later e = absurd (cc)
 no_fault false r later e = (refl, e)
 
-no_last : (b : Bool) → (if b then None else Some LastShard) ≡ None → b ≡ true
+pub no_last : (b : Bool) → (if b then None else Some LastShard) ≡ None → b ≡ true
 no_last true e = refl
 no_last false e = absurd (cc)
 
-no_granted : (g : Option Window) (later : Option Reason) → granted_fault g later ≡ None → later ≡ None
+pub no_granted : (g : Option Window) (later : Option Reason) → granted_fault g later ≡ None → later ≡ None
 no_granted None later e = e
 no_granted (Some w) later e = absurd (cc)
 
-no_gone : (o : Option ℕ) → gone_fault o ≡ None → o ≡ None
+pub no_gone : (o : Option ℕ) → gone_fault o ≡ None → o ≡ None
 no_gone None e = refl
 no_gone (Some shard) e = absurd (cc)
 
@@ -64,7 +65,7 @@ cut_step a is fits =
           subst (λ (x : Agreement). IsSound (record x { slots = a.slots + 1 })) (sym e) (IsSound-round a is (omega (arith, is.short, apart)))
     ]
 
-fit_step : (a : Agreement) (entry : Entry) → IsSound a → a.slots < 1000000 → IsValidEntry entry → fault_of a entry ≡ None → IsSound (record (after_entry a entry) { slots = a.slots + 1 })
+fit_step : (a : Agreement) (entry : Entry) → IsSound a → a.slots < 1000000 → HasValidTable entry → fault_of a entry ≡ None → IsSound (record (after_entry a entry) { slots = a.slots + 1 })
 fit_step a Nothing is below valid fits = IsSound-passed a is
 fit_step a (Cut window round) is below valid fits =
     let named = no_fault (not (window == a.current.number)) (WrongWindow a.current.number) _ fits in
@@ -79,20 +80,20 @@ fit_step a (Remove window shard) is below valid fits =
     let row = no_fault (not (has_row shard a.current.spots)) (NotARow shard) _ named.1 in
     IsSound-remove a shard is below (not-false (has_row shard a.current.spots) row.0) (ltb-true 1 (length a.current.spots) (no_last (nat_lt 1 (length a.current.spots)) row.1))
 
-entry_step : (a : Agreement) (entry : Entry) (fault : Option Reason) → IsSound a → a.slots < 1000000 → IsValidEntry entry → fault_of a entry ≡ fault → IsSound (record (unless_void fault a (after_entry a entry)) { slots = a.slots + 1 })
+entry_step : (a : Agreement) (entry : Entry) (fault : Option Reason) → IsSound a → a.slots < 1000000 → HasValidTable entry → fault_of a entry ≡ fault → IsSound (record (unless_void fault a (after_entry a entry)) { slots = a.slots + 1 })
 entry_step a entry None is below valid e = fit_step a entry is below valid e
 entry_step a entry (Some reason) is below valid e = IsSound-passed a is
 
 -- each entry keeps it
-pub IsSound-applied : (a : Agreement) (entry : Entry) → IsSound a → a.slots < 1000000 → IsValidEntry entry → IsSound (applied a entry)
+pub IsSound-applied : (a : Agreement) (entry : Entry) → IsSound a → a.slots < 1000000 → HasValidTable entry → IsSound (applied a entry)
 IsSound-applied a entry is below valid = entry_step a entry (fault_of a entry) is below valid refl
 
-pub IsSound-applied_all : (a : Agreement) (entries : List Entry) → IsSound a → a.slots + length entries ≤ 1000000 → AllByRecursion IsValidEntry entries → IsSound (applied_all a entries)
+pub IsSound-applied_all : (a : Agreement) (entries : List Entry) → IsSound a → a.slots + length entries ≤ 1000000 → AllByRecursion HasValidTable entries → IsSound (applied_all a entries)
 IsSound-applied_all a [] is below valid = is
 IsSound-applied_all a (entry ∷ entries) is below valid =
     IsSound-applied_all (applied a entry) entries (IsSound-applied a entry is (omega arith) valid.0) (omega arith) valid.1
 
 -- after any list of entries, from the first window on
-pub IsSound-fold_of : (rounds : ℕ) (rows : List Row) (entries : List Entry) → 1 ≤ rounds → rounds ≤ 1024 → IsTable rows → length entries ≤ 1000000 → AllByRecursion IsValidEntry entries → IsSound (fold_of (first_of rounds rows) entries)
+pub IsSound-fold_of : (rounds : ℕ) (rows : List Row) (entries : List Entry) → 1 ≤ rounds → rounds ≤ 1024 → IsTable rows → length entries ≤ 1000000 → AllByRecursion HasValidTable entries → IsSound (fold_of (first_of rounds rows) entries)
 IsSound-fold_of rounds rows entries some most table below valid =
     IsSound-applied_all (agreement_from (first_of rounds rows)) entries (IsSound-first rounds rows some most table) (omega arith) valid

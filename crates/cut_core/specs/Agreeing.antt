@@ -1,13 +1,13 @@
-use Rattle.std.specs.Prelude.{ℕ, ◌<◌, ◌≤◌, ◌≡◌, ◌+◌, List, [], ◌∷◌, length}
+use Rattle.std.specs.Prelude.{ℕ, ◌<◌, ◌≤◌, ◌≡◌, ◌+◌, List, [], ◌∷◌, ◌++◌, length}
 use Rattle.std.specs.List.{AllByRecursion}
 use Rattle.quota_table.specs.declared.entry.Entry.{Entry}
 use Rattle.quota_table.specs.declared.rows.Row.{Row}
 use Rattle.quota_table.specs.Rows.{IsTable}
-use Rattle.fix_ante.specs.Windows.{first_of}
+use Rattle.fix_ante.specs.Windows.{Window, first_of}
 use Rattle.cut_core.specs.declared.effects.Effect.{Effect}
 use Rattle.cut_core.specs.declared.effects.Effect.TheVariants.{Still, Covered, Opened, Granted, Removed, Void}
-use Rattle.cut_core.specs.Agreements.{Agreement}
-use Rattle.cut_core.specs.Fold.{applied, applied_all, fold_of, IsValidEntry}
+use Rattle.cut_core.specs.Agreements.{Agreement, agreement_from}
+use Rattle.cut_core.specs.Fold.{applied, applied_all, fold_of, HasValidTable}
 use Rattle.cut_core.specs.Effects.{effect_of}
 use Rattle.cut_core.specs.Map.{map_of, mapped, located}
 
@@ -30,7 +30,7 @@ abbrev pub MapsAgree : Type 0
 MapsAgree =
     (rounds : ℕ) (rows : List Row) (entries more : List Entry) (position : ℕ) →
     1 ≤ rounds → rounds ≤ 1024 → IsTable rows →
-    length entries + length more ≤ 1000000 → AllByRecursion IsValidEntry entries → AllByRecursion IsValidEntry more →
+    length entries + length more ≤ 1000000 → AllByRecursion HasValidTable entries → AllByRecursion HasValidTable more →
     (let before : Agreement = fold_of (first_of rounds rows) entries in
     position < length (map_of before) → IsBelowFirsts before more position →
     (position < length (map_of (applied_all before more))) × (mapped (applied_all before more) position ≡ mapped before position))
@@ -41,3 +41,8 @@ CoveredStays =
     (first : Agreement) (more : List Entry) (position : ℕ) →
     position < length first.covered →
     (position < length (applied_all first more).covered) × (located (applied_all first more) position ≡ located first position)
+
+-- the state after a list of entries is made entry by entry, from the first window on
+pub record FoldsByEntry (first : Window) : Type 0 where
+  pub none : fold_of first [] ≡ agreement_from first
+  pub more : (entries : List Entry) (entry : Entry) → fold_of first (entries ++ entry ∷ []) ≡ applied (fold_of first entries) entry

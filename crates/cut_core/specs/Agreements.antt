@@ -4,11 +4,7 @@ use Rattle.quota_table.specs.declared.rows.Row.{Row}
 use Rattle.fix_ante.specs.declared.spots.Owner.{Owner}
 use Rattle.fix_ante.specs.Windows.{Window}
 use Rattle.fix_ante.specs.Locals.{locals_of}
-
--- a shard that is gone, and one past its last local
-pub record Gone : Type 0 where
-  pub shard : ℕ
-  pub end : ℕ
+pub use Rattle.cut_core.specs.declared.gone.Gone.{Gone}
 
 -- what the entries so far have agreed on: how many they are, the owners of the covered positions with the number of
 -- the window that each stood in, the current window with its covered rounds, the granted one, and the gone shards

@@ -1,4 +1,4 @@
-use Rattle.std.specs.Prelude.{◌+◌, if◌then◌else◌, Option, Some, None}
+use Rattle.std.specs.Prelude.{◌+◌, Bool, true, false, if◌then◌else◌, Option, Some, None}
 use Rattle.quota_table.specs.declared.entry.Entry.{Entry}
 use Rattle.quota_table.specs.declared.entry.Entry.TheVariants.{Nothing, Cut, Table, Remove}
 use Rattle.fix_ante.specs.Windows.{Window}
@@ -28,3 +28,12 @@ void_or (Some reason) effect = Void reason
 -- what an entry does, or why it is void
 abbrev pub effect_of : Agreement → Entry → Effect
 effect_of a entry = void_or (fault_of a entry) (effect_where_fit a entry)
+
+-- another window follows the current one, which is over then
+abbrev pub ends_window : Effect → Bool
+ends_window Still = false
+ends_window (Covered rounds) = false
+ends_window (Opened window) = true
+ends_window (Granted window) = false
+ends_window (Removed shard first) = true
+ends_window (Void reason) = false

@@ -73,9 +73,9 @@ applied_all a (entry ∷ entries) = applied_all (applied a entry) entries
 abbrev pub fold_of : Window → List Entry → Agreement
 fold_of first = applied_all (agreement_from first)
 
--- an entry as it can be agreed on: a table has 1 to 1,024 rounds and the rows of a table
-abbrev pub IsValidEntry : Entry → Type 0
-IsValidEntry Nothing = Unit {0}
-IsValidEntry (Cut window round) = Unit {0}
-IsValidEntry (Table after rounds rows) = (1 ≤ rounds) × (rounds ≤ 1024) × IsTable rows
-IsValidEntry (Remove window shard) = Unit {0}
+-- where an entry is a table, it has 1 to 1,024 rounds and the rows of a table
+abbrev pub HasValidTable : Entry → Type 0
+HasValidTable Nothing = Unit {0}
+HasValidTable (Cut window round) = Unit {0}
+HasValidTable (Table after rounds rows) = (1 ≤ rounds) × (rounds ≤ 1024) × IsTable rows
+HasValidTable (Remove window shard) = Unit {0}

@@ -4,3 +4,6 @@ pub mod Fold
 pub mod Effects
 pub mod Map
 pub mod Agreeing
+pub mod Soundness
+pub mod Agreed
+pub mod Consistency
