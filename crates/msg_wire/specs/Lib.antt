@@ -7,3 +7,4 @@ pub mod Nodes
 pub mod Heeded
 pub mod Entries
 pub mod Steps
+pub mod Inputs

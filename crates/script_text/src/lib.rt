@@ -1,8 +1,25 @@
-//! Scripts and plans as text.
+//! Scripts as text: the head of a cluster, and after it one input a line.
 //!
-//! - [`ScriptKind`]: why a line of a script is refused.
+//! - [`read_script`]: the script that a text spells, or the first line that is refused, and why.
+//! - [`read_before`]: the script of the lines before that one, where [`has_head_before`] finds a head there.
+//! - [`Script`], [`LineNumbers`]: a cluster, its inputs, and the number of each input's line.
+//! - [`ScriptError`], [`ScriptKind`]: what a text is refused with.
 #![tactic(auto)]
 
+mod decimal;
+mod errors;
+mod head;
+mod inputs;
 mod kind;
+pub mod laws;
+mod lines;
+mod rows;
+mod script;
+mod words;
 
+pub use errors::ScriptError;
 pub use kind::ScriptKind;
+pub use script::{LineNumbers, Script, has_head_before, read_before, read_script};
+
+#[cfg(test)]
+mod tests;

@@ -1,0 +1,277 @@
+-- Lines of inputs: what is judged is what the line spells, both ways.
+use Rattle.std.proofs.Common.{◌≡◌, ℕ, ◌<◌, ◌≤◌, true, false, cond, not, nat_lt, IsTrue, List, [], ◌∷◌, length, Ok, Err, codes, refl, ap, subst, ◌∙◌, inl, inr, arith}
+use Rattle.std.proofs.lemmas.Bool.Decides.{nat_tests}
+use Rattle.spec_base.specs.Spelling.{node_name}
+use Rattle.record_codec.specs.Reading.{◌>>=◌}
+use Rattle.record_codec.proofs.Reading.{bind_ok, chosen, ok_is}
+use Rattle.msg_wire.specs.Valid.{IsBody, IsNodeOf, IsSequencerOf, IsCommandOf}
+use Rattle.msg_wire.specs.Inputs.{IsInputOf}
+use Rattle.msg_wire.specs.Nodes.{nodes_of, sequencers_of}
+use Rattle.script_text.specs.Names.{NodeId, Row, Config, Input, ScriptKind}
+use Rattle.script_text.specs.Names.inputs
+use Rattle.script_text.specs.Names.commands
+use Rattle.script_text.specs.Names.kinds
+use Rattle.script_text.specs.Words.{is_printable, words_of, is_word, SpellsDecimal}
+use Rattle.script_text.specs.Spelled.{SpellsNode, SpellsWindow, SpellsInput}
+use Rattle.script_text.specs.Judged.{Judged, from_to, number_in, number_below, node_in, first_of, only_of, both_of, window_of, body_in, submit_of, message_of, deliver_of, lose_of, drain_of, tick_of, restart_of, table_of, remove_of, form_of, body_of, input_in}
+use Rattle.script_text.proofs.NumberLemmas.{first_of-ok, only_of-ok, both_of-ok, is_word-same, number_in-ok, number_in-back, number_below-ok, number_below-back, from_to-is, from_to-true}
+use Rattle.script_text.proofs.NodeLemmas.{node_in-ok, among-nodes, among-sequencers, node-found, sequencer-found}
+use Rattle.script_text.proofs.RowSpelled.{window_of-ok, window_of-back}
+use Rattle.script_text.proofs.SubmitLemmas.{submit-ok, submit-back}
+
+-- what a line says is an input of the cluster
+abbrev Holds : Config → List ℕ → Input → Type 0
+Holds c line input = SpellsInput line input × IsInputOf c input
+
+-- a line's words, of which the first is known
+abbrev Begins : List ℕ → List ℕ → List (List ℕ) → Type 0
+Begins line due words = words_of line ≡ due ∷ words
+
+after : (line due : List ℕ) (words others : List (List ℕ)) → Begins line due words → words ≡ others → words_of line ≡ due ∷ others
+after line due words others b e = b ∙ ap (λ (ws : List (List ℕ)). due ∷ ws) e
+
+-- ---- submit
+
+body_in-ok : (bytes body : List ℕ) → body_in bytes ≡ Ok body → (bytes ≡ body) × IsBody bytes
+body_in-ok bytes body e =
+    elim (chosen (nat_lt 1024 (length bytes)) (Err (kinds.Body (length bytes))) (Ok bytes) (Ok body) e) [
+      | inl h ↦ absurd (let bad = h.1 in cc)
+      | inr h ↦ (ok_is ScriptKind bytes body h.1, grind (arith, nat_tests, h.0))
+    ]
+
+submit_of-ok : (c : Config) (line : List ℕ) (words : List (List ℕ)) (input : Input) → Begins line (codes "submit") words → submit_of c (body_of line) words ≡ Ok input → Holds c line input
+unfolding submit_of
+submit_of-ok c line words input b e =
+    let f = bind_ok (first_of words) (λ first. number_below (length c.homes) first.0 >>= λ client. body_in (body_of line) >>= λ body. Ok (inputs.Submit client body)) input e in
+    let n = bind_ok (number_below (length c.homes) f.0.0) (λ client. body_in (body_of line) >>= λ body. Ok (inputs.Submit client body)) input f.2 in
+    let y = bind_ok (body_in (body_of line)) (λ body. Ok (inputs.Submit n.0 body)) input n.2 in
+    let s = number_below-ok (length c.homes) f.0.0 n.0 n.1 in
+    let body = body_in-ok (body_of line) y.0 y.1 in
+    let spelled = submit-ok line f.0.0 f.0.1 n.0 (after line (codes "submit") words (f.0.0 ∷ f.0.1) b (first_of-ok words f.0 f.1)) s.0 in
+    let input_is : inputs.Submit n.0 (body_of line) ≡ input = ap (λ (t : List ℕ). inputs.Submit n.0 t) body.0 ∙ ok_is ScriptKind (inputs.Submit n.0 y.0) input y.2 in
+    subst (Holds c line) input_is (spelled, (s.1, body.1))
+
+-- ---- numbers
+
+message_of-ok : (words : List (List ℕ)) (n : ℕ) → message_of words ≡ Ok n → (word : List ℕ) × (words ≡ word ∷ []) × SpellsDecimal word n
+unfolding message_of
+message_of-ok words n e =
+    let w = bind_ok (only_of words) (λ word. number_in (λ _. true) word) n e in
+    (w.0, only_of-ok words w.0 w.1, (number_in-ok (λ _. true) w.0 n w.2).0)
+
+deliver_of-ok : (c : Config) (line : List ℕ) (words : List (List ℕ)) (input : Input) → Begins line (codes "deliver") words → deliver_of words ≡ Ok input → Holds c line input
+unfolding deliver_of
+deliver_of-ok c line words input b e =
+    let n = bind_ok (message_of words) (λ number. Ok (inputs.Deliver number)) input e in
+    let w = message_of-ok words n.0 n.1 in
+    subst (Holds c line) (ok_is ScriptKind (inputs.Deliver n.0) input n.2) ((w.0, after line (codes "deliver") words (w.0 ∷ []) b w.1, w.2), tt)
+
+lose_of-ok : (c : Config) (line : List ℕ) (words : List (List ℕ)) (input : Input) → Begins line (codes "lose") words → lose_of words ≡ Ok input → Holds c line input
+unfolding lose_of
+lose_of-ok c line words input b e =
+    let n = bind_ok (message_of words) (λ number. Ok (inputs.Lose number)) input e in
+    let w = message_of-ok words n.0 n.1 in
+    subst (Holds c line) (ok_is ScriptKind (inputs.Lose n.0) input n.2) ((w.0, after line (codes "lose") words (w.0 ∷ []) b w.1, w.2), tt)
+
+drain_of-ok : (c : Config) (line : List ℕ) (words : List (List ℕ)) (input : Input) → Begins line (codes "drain") words → drain_of words ≡ Ok input → Holds c line input
+unfolding drain_of
+drain_of-ok c line words input b e =
+    let w = bind_ok (only_of words) (λ word. number_in (from_to 0 200000) word >>= λ count. Ok (inputs.Drain count)) input e in
+    let n = bind_ok (number_in (from_to 0 200000) w.0) (λ count. Ok (inputs.Drain count)) input w.2 in
+    let s = number_in-ok (from_to 0 200000) w.0 n.0 n.1 in
+    subst (Holds c line) (ok_is ScriptKind (inputs.Drain n.0) input n.2) ((w.0, after line (codes "drain") words (w.0 ∷ []) b (only_of-ok words w.0 w.1), s.0), (from_to-is 0 200000 n.0 s.1).1)
+
+-- ---- nodes
+
+named : (line due : List ℕ) (words : List (List ℕ)) (word : List ℕ) (node : NodeId) → Begins line due words → words ≡ word ∷ [] → word ≡ node_name node → SpellsNode due (words_of line) node
+named line due words word node b e n = after line due words (node_name node ∷ []) b (e ∙ ap (λ (w : List ℕ). w ∷ []) n)
+
+tick_of-ok : (c : Config) (line : List ℕ) (words : List (List ℕ)) (input : Input) → Begins line (codes "tick") words → tick_of c words ≡ Ok input → Holds c line input
+unfolding tick_of
+tick_of-ok c line words input b e =
+    let w = bind_ok (only_of words) (λ word. node_in (nodes_of c) word >>= λ node. Ok (inputs.Tick node)) input e in
+    let n = bind_ok (node_in (nodes_of c) w.0) (λ node. Ok (inputs.Tick node)) input w.2 in
+    let h = node_in-ok w.0 n.0 (nodes_of c) n.1 in
+    subst (Holds c line) (ok_is ScriptKind (inputs.Tick n.0) input n.2) (named line (codes "tick") words w.0 n.0 b (only_of-ok words w.0 w.1) h.0, among-nodes c n.0 h.1)
+
+restart_of-ok : (c : Config) (line : List ℕ) (words : List (List ℕ)) (input : Input) → Begins line (codes "restart") words → restart_of c words ≡ Ok input → Holds c line input
+unfolding restart_of
+restart_of-ok c line words input b e =
+    let w = bind_ok (only_of words) (λ word. node_in (nodes_of c) word >>= λ node. Ok (inputs.Restart node)) input e in
+    let n = bind_ok (node_in (nodes_of c) w.0) (λ node. Ok (inputs.Restart node)) input w.2 in
+    let h = node_in-ok w.0 n.0 (nodes_of c) n.1 in
+    subst (Holds c line) (ok_is ScriptKind (inputs.Restart n.0) input n.2) (named line (codes "restart") words w.0 n.0 b (only_of-ok words w.0 w.1) h.0, among-nodes c n.0 h.1)
+
+-- ---- commands
+
+table_of-ok : (c : Config) (line : List ℕ) (words : List (List ℕ)) (input : Input) → Begins line (codes "table") words → table_of c words ≡ Ok input → Holds c line input
+unfolding table_of
+table_of-ok c line words input b e =
+    let f = bind_ok (first_of words) (λ first. first_of first.1 >>= λ second. node_in (sequencers_of c) first.0 >>= λ node. window_of c.shards second.0 second.1 >>= λ window. Ok (inputs.Command node (commands.Table window.0 window.1))) input e in
+    let g = bind_ok (first_of f.0.1) (λ second. node_in (sequencers_of c) f.0.0 >>= λ node. window_of c.shards second.0 second.1 >>= λ window. Ok (inputs.Command node (commands.Table window.0 window.1))) input f.2 in
+    let n = bind_ok (node_in (sequencers_of c) f.0.0) (λ node. window_of c.shards g.0.0 g.0.1 >>= λ window. Ok (inputs.Command node (commands.Table window.0 window.1))) input g.2 in
+    let w = bind_ok (window_of c.shards g.0.0 g.0.1) (λ window. Ok (inputs.Command n.0 (commands.Table window.0 window.1))) input n.2 in
+    let h = node_in-ok f.0.0 n.0 (sequencers_of c) n.1 in
+    let s = window_of-ok c.shards g.0.0 g.0.1 w.0 w.1 in
+    let words_are : words ≡ node_name n.0 ∷ g.0.0 ∷ g.0.1 =
+    first_of-ok words f.0 f.1 ∙ (ap (λ (ws : List (List ℕ)). f.0.0 ∷ ws) (first_of-ok f.0.1 g.0 g.1) ∙ ap (λ (x : List ℕ). x ∷ g.0.0 ∷ g.0.1) h.0) in
+    subst (Holds c line) (ok_is ScriptKind (inputs.Command n.0 (commands.Table w.0.0 w.0.1)) input w.2)
+    ((g.0.0 ∷ g.0.1, after line (codes "table") words (node_name n.0 ∷ g.0.0 ∷ g.0.1) b words_are, s.0), (among-sequencers c n.0 h.1, (s.1, s.2)))
+
+remove_of-ok : (c : Config) (line : List ℕ) (words : List (List ℕ)) (input : Input) → Begins line (codes "remove") words → remove_of c words ≡ Ok input → Holds c line input
+unfolding remove_of
+remove_of-ok c line words input b e =
+    let f = bind_ok (both_of words) (λ both. node_in (sequencers_of c) both.0 >>= λ node. number_below c.shards both.1 >>= λ shard. Ok (inputs.Command node (commands.Remove shard))) input e in
+    let n = bind_ok (node_in (sequencers_of c) f.0.0) (λ node. number_below c.shards f.0.1 >>= λ shard. Ok (inputs.Command node (commands.Remove shard))) input f.2 in
+    let k = bind_ok (number_below c.shards f.0.1) (λ shard. Ok (inputs.Command n.0 (commands.Remove shard))) input n.2 in
+    let h = node_in-ok f.0.0 n.0 (sequencers_of c) n.1 in
+    let s = number_below-ok c.shards f.0.1 k.0 k.1 in
+    let words_are : words ≡ node_name n.0 ∷ f.0.1 ∷ [] = both_of-ok words f.0 f.1 ∙ ap (λ (x : List ℕ). x ∷ f.0.1 ∷ []) h.0 in
+    subst (Holds c line) (ok_is ScriptKind (inputs.Command n.0 (commands.Remove k.0)) input k.2)
+    ((f.0.1, after line (codes "remove") words (node_name n.0 ∷ f.0.1 ∷ []) b words_are, s.0), (among-sequencers c n.0 h.1, s.1))
+
+-- ---- by the first word
+
+abbrev from_eighth : List ℕ → List (List ℕ) → Judged Input
+from_eighth word words = cond (is_word (codes "drain") word) (drain_of words) (Err kinds.Word)
+
+abbrev from_seventh : Config → List ℕ → List (List ℕ) → Judged Input
+from_seventh c word words = cond (is_word (codes "remove") word) (remove_of c words) (from_eighth word words)
+
+abbrev from_sixth : Config → List ℕ → List (List ℕ) → Judged Input
+from_sixth c word words = cond (is_word (codes "table") word) (table_of c words) (from_seventh c word words)
+
+abbrev from_fifth : Config → List ℕ → List (List ℕ) → Judged Input
+from_fifth c word words = cond (is_word (codes "restart") word) (restart_of c words) (from_sixth c word words)
+
+abbrev from_fourth : Config → List ℕ → List (List ℕ) → Judged Input
+from_fourth c word words = cond (is_word (codes "tick") word) (tick_of c words) (from_fifth c word words)
+
+abbrev from_third : Config → List ℕ → List (List ℕ) → Judged Input
+from_third c word words = cond (is_word (codes "lose") word) (lose_of words) (from_fourth c word words)
+
+abbrev from_second : Config → List ℕ → List (List ℕ) → Judged Input
+from_second c word words = cond (is_word (codes "deliver") word) (deliver_of words) (from_third c word words)
+
+begins : (line due word : List ℕ) (words : List (List ℕ)) → words_of line ≡ word ∷ words → is_word due word ≡ true → Begins line due words
+begins line due word words e same = e ∙ ap (λ (x : List ℕ). x ∷ words) (is_word-same due word same)
+
+module _ (c : Config) (line word : List ℕ) (words : List (List ℕ)) (input : Input) (words_are : words_of line ≡ word ∷ words) where
+  eighth : from_eighth word words ≡ Ok input → Holds c line input
+  eighth e = elim (chosen (is_word (codes "drain") word) (drain_of words) (Err kinds.Word) (Ok input) e) [
+    | inl h ↦ drain_of-ok c line words input (begins line (codes "drain") word words words_are h.0) h.1
+    | inr h ↦ absurd (let bad = h.1 in cc)
+  ]
+
+  seventh : from_seventh c word words ≡ Ok input → Holds c line input
+  seventh e = elim (chosen (is_word (codes "remove") word) (remove_of c words) (from_eighth word words) (Ok input) e) [
+    | inl h ↦ remove_of-ok c line words input (begins line (codes "remove") word words words_are h.0) h.1
+    | inr h ↦ eighth h.1
+  ]
+
+  sixth : from_sixth c word words ≡ Ok input → Holds c line input
+  sixth e = elim (chosen (is_word (codes "table") word) (table_of c words) (from_seventh c word words) (Ok input) e) [
+    | inl h ↦ table_of-ok c line words input (begins line (codes "table") word words words_are h.0) h.1
+    | inr h ↦ seventh h.1
+  ]
+
+  fifth : from_fifth c word words ≡ Ok input → Holds c line input
+  fifth e = elim (chosen (is_word (codes "restart") word) (restart_of c words) (from_sixth c word words) (Ok input) e) [
+    | inl h ↦ restart_of-ok c line words input (begins line (codes "restart") word words words_are h.0) h.1
+    | inr h ↦ sixth h.1
+  ]
+
+  fourth : from_fourth c word words ≡ Ok input → Holds c line input
+  fourth e = elim (chosen (is_word (codes "tick") word) (tick_of c words) (from_fifth c word words) (Ok input) e) [
+    | inl h ↦ tick_of-ok c line words input (begins line (codes "tick") word words words_are h.0) h.1
+    | inr h ↦ fifth h.1
+  ]
+
+  third : from_third c word words ≡ Ok input → Holds c line input
+  third e = elim (chosen (is_word (codes "lose") word) (lose_of words) (from_fourth c word words) (Ok input) e) [
+    | inl h ↦ lose_of-ok c line words input (begins line (codes "lose") word words words_are h.0) h.1
+    | inr h ↦ fourth h.1
+  ]
+
+  second : from_second c word words ≡ Ok input → Holds c line input
+  second e = elim (chosen (is_word (codes "deliver") word) (deliver_of words) (from_third c word words) (Ok input) e) [
+    | inl h ↦ deliver_of-ok c line words input (begins line (codes "deliver") word words words_are h.0) h.1
+    | inr h ↦ third h.1
+  ]
+
+  first : form_of c (body_of line) (word ∷ words) ≡ Ok input → Holds c line input
+  first e = elim (chosen (is_word (codes "submit") word) (submit_of c (body_of line) words) (from_second c word words) (Ok input) e) [
+    | inl h ↦ submit_of-ok c line words input (begins line (codes "submit") word words words_are h.0) h.1
+    | inr h ↦ second h.1
+  ]
+
+form_of-ok : (c : Config) (line : List ℕ) (words : List (List ℕ)) (input : Input) → words_of line ≡ words → form_of c (body_of line) words ≡ Ok input → Holds c line input
+form_of-ok c line [] input w e = absurd cc
+form_of-ok c line (word ∷ words) input w e = first c line word words input w e
+
+pub input_in-ok : (c : Config) (line : List ℕ) (input : Input) → input_in c line ≡ Ok input → IsTrue (is_printable line) × SpellsInput line input × IsInputOf c input
+unfolding input_in
+input_in-ok c line input e =
+    elim (chosen (not (is_printable line)) (Err kinds.Byte) (form_of c (body_of line) (words_of line)) (Ok input) e) [
+      | inl h ↦ absurd (let bad = h.1 in cc)
+      | inr h ↦ let s = form_of-ok c line (words_of line) input refl h.1 in (grind (arith, nat_tests, h.0), s.0, s.1)
+    ]
+
+-- ---- and back
+
+spelled : (c : Config) (line : List ℕ) (words : List (List ℕ)) (input : Input) → IsTrue (is_printable line) → words_of line ≡ words → form_of c (body_of line) words ≡ Ok input → input_in c line ≡ Ok input
+unfolding input_in
+spelled c line words input p w f = rw (p, w) f
+
+any_number : (word : List ℕ) (n : ℕ) → SpellsDecimal word n → message_of (word ∷ []) ≡ Ok n
+unfolding message_of
+any_number word n s = number_in-back (λ _. true) word n s refl
+
+submit_back : (c : Config) (bytes word : List ℕ) (words : List (List ℕ)) (client : ℕ) (body : List ℕ) → SpellsDecimal word client → client < length c.homes → bytes ≡ body → IsBody body → submit_of c bytes (word ∷ words) ≡ Ok (inputs.Submit client body)
+unfolding submit_of
+submit_back c bytes word words client body s h same b =
+    let fits : nat_lt 1024 (length bytes) ≡ false = grind (arith, nat_tests, ap length same) in
+    rw (number_below-back (length c.homes) word client s h, fits) (ap (λ (t : List ℕ). Ok (inputs.Submit client t)) same)
+
+deliver_back : (word : List ℕ) (n : ℕ) → SpellsDecimal word n → deliver_of (word ∷ []) ≡ Ok (inputs.Deliver n)
+unfolding deliver_of
+deliver_back word n s = rw (any_number word n s) refl
+
+lose_back : (word : List ℕ) (n : ℕ) → SpellsDecimal word n → lose_of (word ∷ []) ≡ Ok (inputs.Lose n)
+unfolding lose_of
+lose_back word n s = rw (any_number word n s) refl
+
+drain_back : (word : List ℕ) (n : ℕ) → SpellsDecimal word n → n ≤ 200000 → drain_of (word ∷ []) ≡ Ok (inputs.Drain n)
+unfolding drain_of
+drain_back word n s h = rw (number_in-back (from_to 0 200000) word n s (from_to-true 0 200000 n (omega arith) h)) refl
+
+tick_back : (c : Config) (node : NodeId) → IsNodeOf c node → tick_of c (node_name node ∷ []) ≡ Ok (inputs.Tick node)
+unfolding tick_of
+tick_back c node h = rw (node-found c (node_name node) node refl h) refl
+
+restart_back : (c : Config) (node : NodeId) → IsNodeOf c node → restart_of c (node_name node ∷ []) ≡ Ok (inputs.Restart node)
+unfolding restart_of
+restart_back c node h = rw (node-found c (node_name node) node refl h) refl
+
+table_back : (c : Config) (node : NodeId) (words : List (List ℕ)) (rounds : ℕ) (rows : List Row) → SpellsWindow words rounds rows → IsSequencerOf c node → IsCommandOf c (commands.Table rounds rows) → table_of c (node_name node ∷ words) ≡ Ok (inputs.Command node (commands.Table rounds rows))
+unfolding table_of
+table_back c node words rounds rows w q k =
+    rw (w.2, sequencer-found c (node_name node) node refl q, window_of-back c.shards w.0 w.1 rounds rows w.3 w.4 k.0 k.1) refl
+
+remove_back : (c : Config) (node : NodeId) (word : List ℕ) (shard : ℕ) → SpellsDecimal word shard → IsSequencerOf c node → shard < c.shards → remove_of c (node_name node ∷ word ∷ []) ≡ Ok (inputs.Command node (commands.Remove shard))
+unfolding remove_of
+remove_back c node word shard s q k = rw (sequencer-found c (node_name node) node refl q, number_below-back c.shards word shard s k) refl
+
+pub input_in-back : (c : Config) (line : List ℕ) (input : Input) → IsTrue (is_printable line) → SpellsInput line input → IsInputOf c input → input_in c line ≡ Ok input
+input_in-back c line (inputs.Submit client body) p s h =
+    let b = submit-back line client body s in
+    spelled c line (codes "submit" ∷ b.word ∷ b.words) (inputs.Submit client body) p b.words_are (submit_back c (body_of line) b.word b.words client body b.client_is h.0 b.body_is h.1)
+input_in-back c line (inputs.Deliver n) p s h = spelled c line (codes "deliver" ∷ s.0 ∷ []) (inputs.Deliver n) p s.1 (deliver_back s.0 n s.2)
+input_in-back c line (inputs.Lose n) p s h = spelled c line (codes "lose" ∷ s.0 ∷ []) (inputs.Lose n) p s.1 (lose_back s.0 n s.2)
+input_in-back c line (inputs.Tick node) p s h = spelled c line (codes "tick" ∷ node_name node ∷ []) (inputs.Tick node) p s (tick_back c node h)
+input_in-back c line (inputs.Restart node) p s h = spelled c line (codes "restart" ∷ node_name node ∷ []) (inputs.Restart node) p s (restart_back c node h)
+input_in-back c line (inputs.Command node (commands.Table rounds rows)) p s h =
+    spelled c line (codes "table" ∷ node_name node ∷ s.0) (inputs.Command node (commands.Table rounds rows)) p s.1 (table_back c node s.0 rounds rows s.2 h.0 h.1)
+input_in-back c line (inputs.Command node (commands.Remove shard)) p s h =
+    spelled c line (codes "remove" ∷ node_name node ∷ s.0 ∷ []) (inputs.Command node (commands.Remove shard)) p s.1 (remove_back c node s.0 shard s.2 h.0 h.1)
+input_in-back c line (inputs.Drain n) p s h = spelled c line (codes "drain" ∷ s.0 ∷ []) (inputs.Drain n) p s.1 (drain_back s.0 n s.2 h)

@@ -1,0 +1,5 @@
+use Rattle.script_text.proofs.PlainTexts.{plain_script}
+use Rattle.script_text.proofs.laws.each_script_has_a_text.Goals as goal
+
+pub returns : goal.returns
+returns c = plain_script

@@ -1,0 +1,8 @@
+use Rattle.script_text.proofs.ScriptLemmas.{script-found, script-only}
+use Rattle.script_text.proofs.script.read_script.Goals as goal
+
+pub returns-clause-found : goal.returns-clause-found
+returns-clause-found c = script-found c.args.text.now c.whole_script.result c.whole_script.ensures.exact c.whole_script.ensures.numbers
+
+pub returns-clause-only : goal.returns-clause-only
+returns-clause-only c = script-only c.args.text.now c.whole_script.result c.whole_script.ensures.exact c.whole_script.ensures.numbers

@@ -1,0 +1,66 @@
+//! Numbers of 1 to 18 digits, and their bounds.
+
+ghost use Rattle.std.specs.Prelude.{◌≡◌, ◌≤◌, ◌<◌, ◌^◌, true, Some, None, if◌then◌else◌, IfSome, IfOk};
+ghost use Rattle.script_text.specs.Words.{is_decimal, value_of};
+ghost use Rattle.script_text.specs.Judged.{number_in, number_below, from_to};
+
+use crate::kind::ScriptKind;
+
+/// The greatest number of digits.
+const MOST_DIGITS: usize = 18;
+
+/// The number that a decimal of 1 to 18 digits spells; None for any other word.
+#[tactic(auto, unfolding(crate::specs::Words::is_decimal, crate::specs::Words::value_of))]
+pub(crate) fn decimal(word: &[u8]) -> Option<u64>
+    ensures number { result ≡ (if is_decimal word.now then Some (value_of word.now) else None) }
+    ensures below { IfSome result (λ n. n < 10 ^ 18) }
+{
+    if word.is_empty() || word.len() > MOST_DIGITS {
+        return None;
+    }
+    let mut value: u64 = 0;
+    for digit in word {
+        if !digit.is_ascii_digit() {
+            return None;
+        }
+        value = value * 10 + u64::from(*digit - b'0');
+    }
+    Some(value)
+}
+
+/// Any number.
+#[tactic(auto, unfolding(crate::specs::Judged::number_in))]
+pub(crate) fn number(word: &[u8]) -> Result<u64, ScriptKind>
+    ensures { result ≡ number_in (λ _. true) word.now }
+{
+    match decimal(word) {
+        Some(value) => Ok(value),
+        None => Err(ScriptKind::Number),
+    }
+}
+
+/// A number from `least` to `most`.
+#[tactic(auto, unfolding(crate::specs::Judged::number_in))]
+pub(crate) fn number_within(word: &[u8], least: u64, most: u64) -> Result<u64, ScriptKind>
+    ensures judged { result ≡ number_in (from_to least most) word.now }
+    ensures most { IfOk result (λ n. n ≤ most) }
+{
+    match decimal(word) {
+        Some(value) if least <= value && value <= most => Ok(value),
+        Some(_) => Err(ScriptKind::Range),
+        None => Err(ScriptKind::Number),
+    }
+}
+
+/// A number below `limit`.
+#[tactic(auto, unfolding(crate::specs::Judged::number_in, crate::specs::Judged::number_below))]
+pub(crate) fn number_below(word: &[u8], limit: u64) -> Result<u64, ScriptKind>
+    ensures judged { result ≡ number_below limit word.now }
+    ensures below { IfOk result (λ n. n < limit) }
+{
+    match decimal(word) {
+        Some(value) if value < limit => Ok(value),
+        Some(_) => Err(ScriptKind::Range),
+        None => Err(ScriptKind::Number),
+    }
+}

@@ -1,0 +1,53 @@
+use crate::kind::ScriptKind;
+use quota_table::OutOfMemory;
+use thiserror::Error;
+
+/// Why a text is no script: the first line that is refused, and the first kind that fits it.
+#[derive(Clone, Copy, Debug, Drop, Error, PartialEq, Eq)]
+pub enum ScriptError {
+    /// The line, counted from 1 over all lines of the text. Where the head ends too early it is the line after the last.
+    #[error("line {line}: {kind}")]
+    At { line: u32, kind: ScriptKind },
+    #[error("out of memory")]
+    OutOfMemory,
+}
+
+impl From<OutOfMemory> for ScriptError {
+    ghost use Rattle.std.specs.Prelude.{◌≡◌};
+    ghost use Rattle.script_text.specs.declared.errors.ScriptError.TheVariants.{OutOfMemory as script_out_of_memory};
+
+    ghost from_gives = { λ _ e. e ≡ script_out_of_memory };
+
+    fn from(_: OutOfMemory) -> ScriptError {
+        ScriptError::OutOfMemory
+    }
+}
+
+/// Why a line is refused, where its number is not known.
+#[derive(Clone, Copy, Debug, Drop, PartialEq, Eq)]
+pub(crate) enum LineError {
+    Refused(ScriptKind),
+    OutOfMemory,
+}
+
+impl From<OutOfMemory> for LineError {
+    ghost use Rattle.std.specs.Prelude.{◌≡◌};
+    ghost use Rattle.script_text.specs.declared.errors.LineError.TheVariants.{OutOfMemory as line_out_of_memory};
+
+    ghost from_gives = { λ _ e. e ≡ line_out_of_memory };
+
+    fn from(_: OutOfMemory) -> LineError {
+        LineError::OutOfMemory
+    }
+}
+
+impl From<ScriptKind> for LineError {
+    ghost use Rattle.std.specs.Prelude.{◌≡◌};
+    ghost use Rattle.script_text.specs.declared.errors.LineError.TheVariants.{Refused};
+
+    ghost from_gives = { λ kind e. e ≡ Refused kind };
+
+    fn from(kind: ScriptKind) -> LineError {
+        LineError::Refused(kind)
+    }
+}

@@ -1,0 +1,233 @@
+//! The lines after the head: one input each.
+
+ghost use Rattle.std.specs.Prelude.{◌≡◌, ◌↔◌, ◌∷◌, drop, IsTrue};
+ghost use Rattle.msg_wire.specs.Nodes.{nodes_of, sequencers_of};
+ghost use Rattle.msg_wire.specs.Valid.{IsValidConfig, IsNodeOf, IsSequencerOf};
+ghost use Rattle.script_text.specs.Words.{words_of, after_word};
+ghost use Rattle.script_text.specs.Judged.{node_in, body_in, submit_of, message_of, deliver_of, lose_of, drain_of, tick_of, restart_of, table_of, remove_of, form_of, input_in};
+ghost use Rattle.script_text.specs.Answers.{Says};
+
+use crate::decimal::{number, number_below, number_within};
+use crate::errors::LineError;
+use crate::kind::ScriptKind;
+use crate::rows::window;
+use crate::words::{both_words, first_word, is_printable, next_word, only_word};
+use msg_wire::{Command, Config, Input};
+use record_codec::{Body, MOST_BODY};
+use spec_base::{NodeId, unspell};
+use std::alloc::Global;
+
+/// The greatest count of a `drain`.
+const MOST_DRAIN: u64 = 200_000;
+
+/// The input that a line spells.
+#[tactic(auto, unfolding(crate::specs::Judged::input_in))]
+pub(crate) fn input_line(alloc: Global, cfg: &Config, line: &[u8]) -> Result<Input, LineError>
+    requires { IsValidConfig cfg.now }
+    ensures { Says result (input_in cfg.now line.now) }
+{
+    if !is_printable(line) {
+        return Err(LineError::Refused(ScriptKind::Byte));
+    }
+    match next_word(line) {
+        Some((word, rest)) => form(alloc, cfg, word, rest),
+        None => Err(LineError::Refused(ScriptKind::Word)),
+    }
+}
+
+/// By the first word, and what follows it.
+fn form(alloc: Global, cfg: &Config, word: &[u8], rest: &[u8]) -> Result<Input, LineError>
+    requires { IsValidConfig cfg.now }
+    ensures { Says result (form_of cfg.now (drop 1 (after_word rest.now)) (word.now ∷ words_of rest.now)) }
+{
+    if word == b"submit".as_slice() {
+        return submit(alloc, cfg, rest);
+    }
+    if word == b"deliver".as_slice() {
+        return deliver(rest);
+    }
+    if word == b"lose".as_slice() {
+        return lose(rest);
+    }
+    if word == b"tick".as_slice() {
+        return tick(cfg, rest);
+    }
+    if word == b"restart".as_slice() {
+        return restart(cfg, rest);
+    }
+    if word == b"table".as_slice() {
+        return table(alloc, cfg, rest);
+    }
+    if word == b"remove".as_slice() {
+        return remove(cfg, rest);
+    }
+    if word == b"drain".as_slice() {
+        return drain(rest);
+    }
+    Err(LineError::Refused(ScriptKind::Word))
+}
+
+/// `submit C BODY`.
+#[tactic(auto, unfolding(crate::specs::Judged::submit_of))]
+fn submit(alloc: Global, cfg: &Config, rest: &[u8]) -> Result<Input, LineError>
+    requires { IsValidConfig cfg.now }
+    ensures { Says result (submit_of cfg.now (drop 1 (after_word rest.now)) (words_of rest.now)) }
+{
+    let (word, after) = first_word(rest)?;
+    let client = number_below(word, cfg.homes.len() as u64)?;
+    let body = body(alloc, after)?;
+    Ok(Input::Submit {
+        client: client as u8,
+        body,
+    })
+}
+
+/// What follows the one space after the client, or nothing.
+fn body(alloc: Global, after: &[u8]) -> Result<Body, LineError>
+    ensures { Says result (body_in (drop 1 after.now)) }
+{
+    let bytes = match after {
+        [_space, bytes @ ..] => bytes,
+        [] => after,
+    };
+    if bytes.len() > MOST_BODY {
+        return Err(LineError::Refused(ScriptKind::Body { len: bytes.len() }));
+    }
+    Ok(Body::of(alloc, bytes)?)
+}
+
+/// `deliver M`.
+#[tactic(auto, unfolding(crate::specs::Judged::deliver_of))]
+fn deliver(rest: &[u8]) -> Result<Input, LineError>
+    ensures { Says result (deliver_of (words_of rest.now)) }
+{
+    let number = message(rest)?;
+    Ok(Input::Deliver { number })
+}
+
+/// `lose M`.
+#[tactic(auto, unfolding(crate::specs::Judged::lose_of))]
+fn lose(rest: &[u8]) -> Result<Input, LineError>
+    ensures { Says result (lose_of (words_of rest.now)) }
+{
+    let number = message(rest)?;
+    Ok(Input::Lose { number })
+}
+
+/// The number of a message, which may be any.
+#[tactic(auto, unfolding(crate::specs::Judged::message_of))]
+fn message(rest: &[u8]) -> Result<u64, ScriptKind>
+    ensures { result ≡ message_of (words_of rest.now) }
+{
+    let word = only_word(rest)?;
+    number(word)
+}
+
+/// `tick NODE`.
+#[tactic(auto, unfolding(crate::specs::Judged::tick_of))]
+fn tick(cfg: &Config, rest: &[u8]) -> Result<Input, LineError>
+    requires { IsValidConfig cfg.now }
+    ensures { Says result (tick_of cfg.now (words_of rest.now)) }
+{
+    let word = only_word(rest)?;
+    let node = node(cfg, word)?;
+    Ok(Input::Tick { node })
+}
+
+/// `restart NODE`.
+#[tactic(auto, unfolding(crate::specs::Judged::restart_of))]
+fn restart(cfg: &Config, rest: &[u8]) -> Result<Input, LineError>
+    requires { IsValidConfig cfg.now }
+    ensures { Says result (restart_of cfg.now (words_of rest.now)) }
+{
+    let word = only_word(rest)?;
+    let node = node(cfg, word)?;
+    Ok(Input::Restart { node })
+}
+
+/// `table NODE K s:q ..`.
+#[tactic(auto, unfolding(crate::specs::Judged::table_of))]
+fn table(alloc: Global, cfg: &Config, rest: &[u8]) -> Result<Input, LineError>
+    requires { IsValidConfig cfg.now }
+    ensures { Says result (table_of cfg.now (words_of rest.now)) }
+{
+    let (name, rest) = first_word(rest)?;
+    let (rounds, rows) = first_word(rest)?;
+    let node = sequencer(cfg, name)?;
+    let (rounds, rows) = window(alloc, rounds, rows, cfg.shards)?;
+    Ok(Input::Command {
+        node,
+        command: Command::Table { rounds, rows },
+    })
+}
+
+/// `remove NODE S`.
+#[tactic(auto, unfolding(crate::specs::Judged::remove_of))]
+fn remove(cfg: &Config, rest: &[u8]) -> Result<Input, LineError>
+    requires { IsValidConfig cfg.now }
+    ensures { Says result (remove_of cfg.now (words_of rest.now)) }
+{
+    let (name, word) = both_words(rest)?;
+    let node = sequencer(cfg, name)?;
+    let shard = number_below(word, u64::from(cfg.shards))?;
+    Ok(Input::Command {
+        node,
+        command: Command::Remove { shard: shard as u8 },
+    })
+}
+
+/// `drain N`.
+#[tactic(auto, unfolding(crate::specs::Judged::drain_of))]
+fn drain(rest: &[u8]) -> Result<Input, LineError>
+    ensures { Says result (drain_of (words_of rest.now)) }
+{
+    let word = only_word(rest)?;
+    let count = number_within(word, 0, MOST_DRAIN)?;
+    Ok(Input::Drain {
+        count: count as u32,
+    })
+}
+
+/// A node of the cluster.
+fn node(cfg: &Config, word: &[u8]) -> Result<NodeId, ScriptKind>
+    requires { IsValidConfig cfg.now }
+    ensures { result ≡ node_in (nodes_of cfg.now) word.now }
+{
+    match unspell(word) {
+        Some(node) if is_node(cfg, node) => Ok(node),
+        _ => Err(ScriptKind::Node),
+    }
+}
+
+/// Whether the cluster has this node.
+fn is_node(cfg: &Config, node: NodeId) -> bool
+    ensures { IsTrue result ↔ IsNodeOf cfg.now node }
+{
+    match node {
+        NodeId::Seq(number) => number < cfg.seqs,
+        NodeId::Shard(number, _) => number < cfg.shards,
+        NodeId::Client(number) => usize::from(number) < cfg.homes.len(),
+        NodeId::Consumer(number) => number < cfg.consumers,
+    }
+}
+
+/// A sequencer of the cluster.
+fn sequencer(cfg: &Config, word: &[u8]) -> Result<NodeId, ScriptKind>
+    requires { IsValidConfig cfg.now }
+    ensures { result ≡ node_in (sequencers_of cfg.now) word.now }
+{
+    match unspell(word) {
+        Some(node) if is_sequencer(cfg, node) => Ok(node),
+        _ => Err(ScriptKind::Node),
+    }
+}
+
+/// Whether this is a sequencer of the cluster.
+fn is_sequencer(cfg: &Config, node: NodeId) -> bool
+    ensures { IsTrue result ↔ IsSequencerOf cfg.now node }
+{
+    match node {
+        NodeId::Seq(number) => number < cfg.seqs,
+        _ => false,
+    }
+}
