@@ -1,4 +1,4 @@
-ghost use Rattle.std.specs.Prelude.{◌≡◌, ℕ, List, []};
+ghost use Rattle.std.specs.Prelude.{◌≡◌, ◌≤◌, ℕ, List, [], length};
 ghost use Rattle.record_codec.specs.declared.app_kind.AppKind.{AppKind};
 ghost use Rattle.record_codec.specs.declared.record.Record.{Record};
 ghost use Rattle.record_codec.specs.declared.record.Record.TheVariants.{Noop};
@@ -35,6 +35,7 @@ pub trait App: Drop {
     fn apply(&mut self, rec: &Record) -> (Self::Undo, Output)
         ensures next { self.new ≡ next_state self.old rec.now }
         ensures output { result.1 ≡ output_of self.old rec.now }
+        ensures short { length result.1 ≤ 64 }
         ensures undo { restored result.0 self.new ≡ self.old };
 
     /// Takes the last record back.
@@ -43,7 +44,8 @@ pub trait App: Drop {
 
     /// The state as text.
     fn show(&self) -> Shown
-        ensures { result ≡ shown_of self.now };
+        ensures shown { result ≡ shown_of self.now }
+        ensures short { length result ≤ 256 };
 
     /// A record that fills a place leaves the state.
     ghost noop_leaves: { (s : Self) → next_state s Noop ≡ s };

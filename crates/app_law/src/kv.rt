@@ -162,14 +162,14 @@ impl Kv {
         ensures short { length result.1 ≤ 32 }
         ensures undo { kv_restored result.0 self.new ≡ self.old }
     {
-        let undo = self.undo_of(&key);
-        let answer = if self.get(&key).is_some() {
+        let value = self.value_of(&key);
+        let answer = if value.is_some() {
             written(b"ok")
         } else {
             written(b"-")
         };
         self.remove(&key);
-        (undo, answer)
+        (KvUndo::Was { key, value }, answer)
     }
 
     /// The value under a key, or `-`.
@@ -188,14 +188,21 @@ impl Kv {
         ensures undo { result ≡ KvUndo.Was key.now (finite.get self.now key.now) }
         ensures within { finite.len self.now ≤ 32 }
     {
-        let _keys = self.len();
-        let value = match self.get(key) {
-            Some(value) => Some(value.copy()),
-            None => None,
-        };
         KvUndo::Was {
             key: key.copy(),
-            value,
+            value: self.value_of(key),
+        }
+    }
+
+    /// A copy of the value under a key, which takes no memory.
+    fn value_of(&self, key: &Key) -> Option<Word>
+        ensures value { result ≡ finite.get self.now key.now }
+        ensures within { finite.len self.now ≤ 32 }
+    {
+        let _keys = self.len();
+        match self.get(key) {
+            Some(value) => Some(value.copy()),
+            None => None,
         }
     }
 

@@ -4,7 +4,7 @@
 //! - [`Tally`] adds numbers up, [`Bank`] moves money between accounts, [`Kv`] keeps values under keys.
 //! - [`AnyApp`] is one of these, by the kind that a cluster runs.
 //!
-//! No call takes memory. `fold_of`, `outputs_of` and `shown_of` give the state, the output and the shown text after a log.
+//! No call takes memory. `fold_of`, `outputs_of` and `shown_after` give the state, the output and the shown text after a log.
 #![tactic(auto)]
 
 mod any_app;

@@ -6,6 +6,8 @@
 
 mod gate;
 mod kept;
+#[cfg(test)]
+mod tests;
 
 pub use gate::OutputGate;
 pub use kept::{Kept, KeptOut, MOST_KEPT};

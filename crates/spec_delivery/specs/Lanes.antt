@@ -1,4 +1,5 @@
-use Rattle.std.specs.Prelude.{ℕ, ◌+◌, Bool, false, ◌||◌, nat_lt, nat_le, Option, Some, None, is_some, List, [], filter, if◌then◌else◌}
+use Rattle.std.specs.Prelude.{ℕ, ◌+◌, ◌≤◌, ◌<◌, Bool, true, false, ◌||◌, nat_lt, nat_le, Option, Some, None, is_some, List, [], filter, if◌then◌else◌}
+use Rattle.std.specs.List.{AllByRecursion}
 use Rattle.std.specs.Ordering.{nat_cmp, eq_by_cmp}
 use Rattle.std.specs.BTreeMap.{insert_entry}
 use Rattle.std.specs.Map.{lookup, remove_entry}
@@ -26,6 +27,19 @@ abbrev pub is_past_end : Option ℕ → ℕ → Bool
 is_past_end None local = false
 is_past_end (Some end) local = nat_le end local
 
+-- before the end, where there is one
+abbrev pub IsBeforeEnd : Option ℕ → ℕ → Type 0
+IsBeforeEnd None local = Unit {0}
+IsBeforeEnd (Some end) local = local < end
+
+-- a local at the floor or less than 640 past it, and before the end, where there is one
+abbrev pub IsInReach : LaneState → ℕ → Type 0
+IsInReach lane local = (lane.floor ≤ local) × (local < lane.floor + 640) × IsBeforeEnd lane.end local
+
+-- each record that is held is in reach
+abbrev pub HoldsInReach : LaneState → Type 0
+HoldsInReach lane = AllByRecursion (λ e. IsInReach lane e.0) lane.held
+
 -- what becomes of a record that is put at a local
 abbrev pub put_answer : LaneState → ℕ → Put
 put_answer lane local =
@@ -33,6 +47,13 @@ put_answer lane local =
     else if nat_le (lane.floor + 640) local || is_past_end lane.end local then Far
     else if is_some (held_at lane local) then Again
     else Kept
+
+-- the record would be held from now on
+abbrev pub is_kept : Put → Bool
+is_kept Kept = true
+is_kept Old = false
+is_kept Far = false
+is_kept Again = false
 
 -- the lane then: only a record that is kept changes it
 abbrev pub after_put : Put → LaneState → ℕ → Record → LaneState

@@ -1,5 +1,6 @@
-ghost use Rattle.std.specs.Prelude.{◌≡◌, ◌≤◌, ◌<◌, ◌^◌, IfOk, OnOk, OnErr};
+ghost use Rattle.std.specs.Prelude.{◌≡◌, ◌≤◌, ◌<◌, ◌^◌, length, IsSome, IfOk, OnOk, OnErr};
 ghost use Rattle.std.specs.Option.{option_copied};
+ghost use Rattle.spec_delivery.specs.Lanes.{IsInReach, HoldsInReach, is_kept};
 ghost use Rattle.spec_delivery.specs.Buffers.{fresh_buffer, lane_of, record_at, answer_to, with_record, with_floor, with_end, without_records};
 
 use crate::lane::Lane;
@@ -26,6 +27,9 @@ impl Model for Buffer {
 
 impl Buffer {
     /// A buffer of six shards, of which nothing is confirmed or held.
+    ///
+    /// The answer has an error for a buffer that takes all its memory here, so that callers stay as they are with one. This one
+    /// takes its memory in [`Buffer::put`], and none here.
     pub fn new(alloc: Global) -> Result<Buffer, OutOfMemory>
         ensures { IfOk result (λ buffer. buffer ≡ fresh_buffer) }
     {
@@ -54,17 +58,39 @@ impl Buffer {
     /// The record that is held of a shard at a local; None exactly where none is.
     pub fn at(&self, shard: u8, local: u64) -> Option<&Record>
         requires { shard ≤ 5 }
-        ensures { option_copied result ≡ record_at self.now shard local }
+        ensures value { option_copied result ≡ record_at self.now shard local }
+        ensures reach { IsSome (record_at self.now shard local) → IsInReach (lane_of self.now shard) local }
     {
         self.lanes[usize::from(shard)].at(local)
     }
 
-    /// A shard's floor: how many of its locals are confirmed, at most 2^48.
+    /// Whether a record of a shard that is put at a local would be kept: the local is in reach and before the shard's end, and none
+    /// is held there.
+    pub fn wants(&self, shard: u8, local: u64) -> bool
+        requires { shard ≤ 5 }
+        ensures { result ≡ is_kept (answer_to self.now shard local) }
+    {
+        self.lanes[usize::from(shard)].wants(local)
+    }
+
+    /// A shard's floor: how many of its locals are confirmed, at most 2^48. What is held of the shard is in reach, and so at most
+    /// 640 records.
     pub fn floor(&self, shard: u8) -> u64
         requires { shard ≤ 5 }
-        ensures { result ≡ (lane_of self.now shard).floor }
+        ensures floor { result ≡ (lane_of self.now shard).floor }
+        ensures within { result ≤ 2 ^ 48 }
+        ensures reach { HoldsInReach (lane_of self.now shard) }
+        ensures few { length (lane_of self.now shard).held ≤ 640 }
     {
         self.lanes[usize::from(shard)].floor()
+    }
+
+    /// A shard's final local end; None until [`Buffer::close`] sets it.
+    pub fn end(&self, shard: u8) -> Option<u64>
+        requires { shard ≤ 5 }
+        ensures { result ≡ (lane_of self.now shard).end }
+    {
+        self.lanes[usize::from(shard)].end()
     }
 
     /// Adds one to a shard's floor, and drops what is below it.

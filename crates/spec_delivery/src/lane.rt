@@ -1,6 +1,7 @@
-ghost use Rattle.std.specs.Prelude.{◌≡◌, ◌<◌, ◌^◌, ◌+◌, ◌||◌, nat_le, IfOk, OnOk, OnErr};
+ghost use Rattle.std.specs.Prelude.{◌≡◌, ◌<◌, ◌≤◌, ◌^◌, ◌+◌, ◌||◌, nat_le, length, IsSome, IfOk, OnOk, OnErr};
 ghost use Rattle.std.specs.Option.{option_copied};
-ghost use Rattle.spec_delivery.specs.Lanes.{fresh_lane, held_at, is_past_end, put_answer, after_put, raised, closed, emptied};
+ghost use Rattle.spec_delivery.specs.declared.put.Put.TheVariants.{Kept};
+ghost use Rattle.spec_delivery.specs.Lanes.{IsInReach, HoldsInReach, fresh_lane, held_at, is_past_end, is_kept, put_answer, after_put, raised, closed, emptied};
 
 use crate::put::Put;
 use quota_table::OutOfMemory;
@@ -24,13 +25,16 @@ pub(crate) struct Lane {
 
 impl Model for Lane {
     ghost use Rattle.std.specs.Prelude.{◌≤◌, ◌^◌};
-    ghost use Rattle.spec_delivery.specs.Lanes.{LaneState};
+    ghost use Rattle.std.specs.List.Sorted.{IsStrictlySortedBy};
+    ghost use Rattle.std.specs.Map.{keys_of};
+    ghost use Rattle.std.specs.Ordering.{nat_cmp};
+    ghost use Rattle.spec_delivery.specs.Lanes.{LaneState, HoldsInReach};
 
     ghost Value = { LaneState };
 
     ghost view = { λ l. record { floor = l.floor; end = l.end; held = l.held.entries } };
 
-    ghost invariant = { λ l. l.floor ≤ 2 ^ 48 };
+    ghost invariant = { λ l. (l.floor ≤ 2 ^ 48) × HoldsInReach (record { floor = l.floor; end = l.end; held = l.held.entries }) × IsStrictlySortedBy nat_cmp (keys_of l.held.entries) };
 }
 
 impl Lane {
@@ -45,17 +49,36 @@ impl Lane {
         }
     }
 
+    /// How many locals are confirmed. What is held is in reach, and so at most 640 records.
     pub(crate) fn floor(&self) -> u64
-        ensures { result ≡ self.now.floor }
+        ensures floor { result ≡ self.now.floor }
+        ensures within { result ≤ 2 ^ 48 }
+        ensures reach { HoldsInReach self.now }
+        ensures few { length self.now.held ≤ 640 }
     {
         self.floor
     }
 
+    /// The final local end, once the shard is gone.
+    pub(crate) fn end(&self) -> Option<u64>
+        ensures { result ≡ self.now.end }
+    {
+        self.end
+    }
+
     /// The record that is held at a local.
     pub(crate) fn at(&self, local: u64) -> Option<&Record>
-        ensures { option_copied result ≡ held_at self.now local }
+        ensures value { option_copied result ≡ held_at self.now local }
+        ensures reach { IsSome (held_at self.now local) → IsInReach self.now local }
     {
         self.held.get(&local)
+    }
+
+    /// Whether a record that is put at a local would be kept.
+    pub(crate) fn wants(&self, local: u64) -> bool
+        ensures { result ≡ is_kept (put_answer self.now local) }
+    {
+        self.answer_at(local) == Put::Kept
     }
 
     /// Holds a copy of a record, unless its local is out of reach or has one already. At an error all is as before.
@@ -66,9 +89,19 @@ impl Lane {
     {
         let answer = self.answer_at(local);
         if answer == Put::Kept {
-            self.held.insert(local, rec.clone()?)?;
+            self.keep(local, rec.clone()?)?;
         }
         Ok(answer)
+    }
+
+    /// Holds a record at a local in reach. At an error all is as before.
+    fn keep(&mut self, local: u64, rec: Record) -> Result<(), OutOfMemory>
+        requires { IsInReach self.old local }
+        ensures lane { OnOk result (self.new ≡ after_put Kept self.old local rec) }
+        ensures err { OnErr result (self.new ≡ self.old) }
+    {
+        self.held.insert(local, rec)?;
+        Ok(())
     }
 
     /// What becomes of a record that is put at a local.
