@@ -1,10 +1,10 @@
 -- Two calls of a disk, one after the other.
-use Rattle.std.proofs.Common.{◌≡◌, ◌⊎◌, inl, inr, refl, sym, ap, ◌∙◌, ℕ, ◌+◌, ◌-◌, ◌≤◌, min, List, ◌++◌, length, take, drop, Option, Some, None, Result, Ok, Err, OnOk, OnErr, arith, append_assoc, length-append, length-drop}
+use Rattle.std.proofs.Common.{◌≡◌, inl, inr, sym, ap, ◌∙◌, ℕ, ◌+◌, ◌-◌, ◌≤◌, min, List, ◌++◌, length, take, drop, Option, Some, None, Result, Ok, Err, OnOk, OnErr, arith, append_assoc, length-append, length-drop}
 use Rattle.std.proofs.lemmas.List.{take-take, take_at, drop_at, take_all, take_min, length-take}
 use Rattle.spec_base.specs.declared.stop.Stop.{Stop}
 use Rattle.spec_base.specs.Faults.{RoseByOne}
 use Rattle.spec_base.specs.Disk.{Torn, Told, Written}
-use Rattle.spec_base.specs.Crash.{Follows, Elapses}
+use Rattle.spec_base.specs.Crash.{Follows, NoneNew, Elapses}
 use Rattle.gate_vault.specs.Put.{FailedTwice}
 
 pub failed_twice : (faults_old faults_mid faults_new row_old row_mid row_new : ℕ) → RoseByOne faults_old faults_mid → RoseByOne faults_mid faults_new
@@ -46,6 +46,11 @@ elapses_then before mid now past between since P Q R first second from_first fro
   ];
   keeps = λ t c le was. second.keeps t c (omega (arith, le, first.no_earlier)) (first.keeps t c le was);
 }
+
+-- two calls over which nothing new is left
+pub quiet_then : (before mid now : ℕ) (past between since : ℕ → List ℕ → Type 0) (P Q : List ℕ → Type 0) → Elapses before mid past between P → NoneNew P Q → Elapses mid now between since Q → Elapses before now past since P
+quiet_then before mid now past between since P Q first none_new second =
+    elapses_then before mid now past between since P Q P first second (λ c left. left) none_new
 
 pub elapses_widened : (before now : ℕ) (past since : ℕ → List ℕ → Type 0) (P Q : List ℕ → Type 0) → Elapses before now past since P → ((c : List ℕ) → P c → Q c) → Elapses before now past since Q
 elapses_widened before now past since P Q time wider = record {

@@ -1,9 +1,9 @@
 -- What an append does to the file, byte by byte.
-use Rattle.std.proofs.Common.{◌≡◌, ◌≢◌, ◌⊎◌, inl, inr, refl, sym, ap, ◌∙◌, subst, ℕ, suc, ◌+◌, ◌-◌, ◌*◌, ◌≤◌, min, List, [], ◌∷◌, ◌++◌, length, take, drop, get_or, arith, append_assoc, append-nil, length-append, length-drop, take-append-drop}
+use Rattle.std.proofs.Common.{◌≡◌, inl, inr, refl, sym, ap, ◌∙◌, ℕ, ◌+◌, ◌-◌, ◌≤◌, min, List, [], ◌∷◌, ◌++◌, length, take, drop, get_or, arith, append_assoc, append-nil, length-append, take-append-drop}
 use Rattle.std.proofs.lemmas.List.{take_at, drop_at, drop_all, drop_more, take-take, take-append-le, length-take}
 use Rattle.std.proofs.lemmas.Bool.{cases_eq}
-use Rattle.spec_base.specs.Disk.{Torn, Written}
-use Rattle.gate_vault.specs.File.{head, payload, frames, gate_after, IsClosed, StandsFor, StandsWithGate, AreShort, IsBeforeOrAfter}
+use Rattle.spec_base.specs.Disk.{Torn}
+use Rattle.gate_vault.specs.File.{head, payload, frames, gate_after, StandsFor, StandsWithGate, AreShort, IsBeforeOrAfter}
 use Rattle.gate_vault.specs.Put.{WrittenOver}
 
 -- the head and the frames of these entries
@@ -48,7 +48,8 @@ nil_of_length (x ∷ l) e = absurd (omega arith)
 pub staged_stands : (entries : List (List ℕ)) (entry c : List ℕ) → IsStaged entries entry c → IsBeforeOrAfter entries entry c
 staged_stands entries entry c staged = elim (cases_eq staged.gate 1) [
   | inl is_open ↦ inr (record {
-    rest = 0 ∷ staged.rest;
+    gate = 0;
+    rest = staged.rest;
     split =
         staged.split
         ∙ ap (λ (g : ℕ). body entries ++ (g ∷ (payload entry ++ (0 ∷ staged.rest)))) is_open
@@ -56,7 +57,7 @@ staged_stands entries entry c staged = elim (cases_eq staged.gate 1) [
         ∙ ap (λ (l : List ℕ). l ++ (0 ∷ staged.rest)) (sym (body-append entries entry));
     closed = omega arith;
   })
-  | inr shut ↦ inl (record { rest = staged.gate ∷ (payload entry ++ (0 ∷ staged.rest)); split = staged.split; closed = shut })
+  | inr shut ↦ inl (record { gate = staged.gate; rest = payload entry ++ (0 ∷ staged.rest); split = staged.split; closed = shut })
 ]
 
 module _ (entries : List (List ℕ)) (entry : List ℕ) (at : ℕ) (place : at ≡ gate_after entries) where
@@ -64,7 +65,7 @@ module _ (entries : List (List ℕ)) (entry : List ℕ) (at : ℕ) (place : at �
   size = length-body entries ∙ sym place
 
   -- the closed gate stands in each torn image of the first write
-  pub torn_behind : (n : ℕ) (file c : List ℕ) → StandsWithGate file entries → Torn (at + 1) n file c → StandsFor c entries
+  pub torn_behind : (n : ℕ) (file c : List ℕ) → StandsWithGate file entries → Torn (at + 1) n file c → StandsWithGate c entries
   torn_behind n file c stands torn =
       let front_file : List ℕ = body entries ++ (stands.gate ∷ []) in
       let whole : file ≡ front_file ++ stands.rest = stands.split ∙ sym (append_assoc (body entries) (stands.gate ∷ []) stands.rest) in
@@ -73,7 +74,8 @@ module _ (entries : List (List ℕ)) (entry : List ℕ) (at : ℕ) (place : at �
       let front : take (at + 1) c ≡ front_file =
       ap (λ (k : ℕ). take k c) (sym within) ∙ torn.before ∙ ap (λ (k : ℕ). take k file) within ∙ ap (take (at + 1)) whole ∙ take_at front_file stands.rest (at + 1) long in
       record {
-        rest = stands.gate ∷ drop (at + 1) c;
+        gate = stands.gate;
+        rest = drop (at + 1) c;
         split = sym (take-append-drop (at + 1) c) ∙ ap (λ (l : List ℕ). l ++ drop (at + 1) c) front ∙ append_assoc (body entries) (stands.gate ∷ []) (drop (at + 1) c);
         closed = stands.closed;
       }

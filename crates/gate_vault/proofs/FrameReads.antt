@@ -1,7 +1,7 @@
 -- From the first bytes of a frame to what stands at its offset.
-use Rattle.std.proofs.Common.{◌≡◌, ◌⊎◌, inl, inr, refl, sym, ap, ◌∙◌, subst, ℕ, ◌+◌, ◌*◌, ◌/◌, ◌%◌, ◌≤◌, ◌<◌, min, List, [], ◌∷◌, ◌++◌, length, take, drop, arith, take-append-drop, append_assoc}
-use Rattle.std.proofs.lemmas.List.{drop-drop, take_all, length-take}
-use Rattle.gate_vault.specs.File.{payload, IsClosed, IsNoPayload}
+use Rattle.std.proofs.Common.{◌≡◌, inl, inr, sym, ap, ◌∙◌, subst, ℕ, ◌+◌, ◌/◌, ◌%◌, ◌≤◌, ◌<◌, List, [], ◌∷◌, ◌++◌, length, take, drop, arith, take-append-drop, append_assoc}
+use Rattle.std.proofs.lemmas.List.{drop-drop, length-take}
+use Rattle.gate_vault.specs.File.{payload, IsClosed}
 use Rattle.gate_vault.specs.Frames.{IsBadFrame, HasLength}
 use Rattle.gate_vault.proofs.FrameBytes.{body, body-append}
 

@@ -1,5 +1,5 @@
 -- From the clauses of disk calls to what a crash at any moment of several calls leaves.
-use Rattle.std.proofs.Common.{◌≡◌, ◌⊎◌, inl, inr, refl, sym, ap, ◌∙◌, subst, ℕ, ◌≤◌, List, Option, Some, None, IfSome, length, arith}
+use Rattle.std.proofs.Common.{◌≡◌, inl, inr, refl, sym, ◌∙◌, subst, ℕ, List, Option, Some, None, IfSome, length, arith}
 use Rattle.spec_base.specs.Disk.{Torn, Told}
 use Rattle.spec_base.specs.Crash.{Only, Follows, Elapses, LeavesOnly}
 use Rattle.spec_base.proofs.MemDiskLemmas.{torn_none}

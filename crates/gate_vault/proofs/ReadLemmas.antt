@@ -1,6 +1,6 @@
 -- What the pieces of a read are together.
-use Rattle.std.proofs.Common.{◌≡◌, ◌⊎◌, inl, inr, refl, sym, ap, ◌∙◌, subst, ℕ, ◌+◌, ◌-◌, ◌≤◌, ◌<◌, min, List, [], ◌∷◌, ◌++◌, length, take, drop, Bool, Option, Some, None, IfSome, arith, length-drop, length-append, append-nil, take-append-drop}
-use Rattle.std.proofs.lemmas.List.{drop-drop, drop_all, take_all, take-take, length-take}
+use Rattle.std.proofs.Common.{◌≡◌, sym, ap, ◌∙◌, subst, ℕ, ◌+◌, ◌-◌, ◌≤◌, min, List, ◌++◌, length, take, drop, Bool, Option, Some, IfSome, arith, length-drop}
+use Rattle.std.proofs.lemmas.List.{drop-drop, take_all, take-take, length-take}
 use Rattle.std.proofs.Math.Seq.{take-add}
 use Rattle.spec_base.specs.Disk.{GivesPart}
 use Rattle.spec_base.specs.Faults.{StaysSound}

@@ -1,5 +1,5 @@
 -- A file stands for at most one list, and for none within the limit where a load refuses it.
-use Rattle.std.proofs.Common.{◌≡◌, ◌≢◌, ◌⊎◌, inl, inr, refl, sym, ap, ◌∙◌, subst, ℕ, zero, suc, ◌+◌, ◌*◌, ◌/◌, ◌%◌, ◌<◌, ◌≤◌, List, [], ◌∷◌, ◌++◌, length, take, drop, arith, append_assoc, length-append}
+use Rattle.std.proofs.Common.{◌≡◌, ◌≢◌, inl, inr, refl, sym, ap, ◌∙◌, subst, ℕ, zero, suc, ◌/◌, ◌%◌, ◌<◌, ◌≤◌, List, [], ◌∷◌, ◌++◌, length, take, drop, arith, append_assoc, length-append}
 use Rattle.std.specs.Prelude.{slice_get, Option}
 use Rattle.gate_vault.specs.declared.errors.VaultError.{VaultError}
 use Rattle.gate_vault.specs.declared.errors.VaultError.TheVariants.{Broken, TooLong, DiskFault, NotAVault, Damaged, OutOfMemory}

@@ -1,5 +1,5 @@
 -- The format of a vault file, and what a file stands for.
-use Rattle.std.specs.Prelude.{◌≡◌, ◌≢◌, ◌⊎◌, ⊤, ℕ, ◌+◌, ◌*◌, ◌/◌, ◌%◌, ◌<◌, ◌≤◌, List, [], ◌∷◌, ◌++◌, length, Option, Some, None, slice_get, take}
+use Rattle.std.specs.Prelude.{◌≡◌, ◌≢◌, ◌⊎◌, ⊤, ℕ, ◌+◌, ◌*◌, ◌/◌, ◌%◌, ◌<◌, ◌≤◌, List, [], ◌∷◌, ◌++◌, length, Option, slice_get, take}
 
 -- the letters BELVAULT
 abbrev pub head : List ℕ
@@ -63,6 +63,6 @@ pub record IsDamagedAt (file : List ℕ) (at : ℕ) : Type 0 where
   pub place : at ≡ gate_after entries
   pub no_payload : IsNoPayload rest
 
--- the file stands for the entries, or for these and one more
+-- the file stands for the entries, or for these and one more, and the byte of its last gate is there
 abbrev pub IsBeforeOrAfter : List (List ℕ) → List ℕ → List ℕ → Type 0
-IsBeforeOrAfter entries entry file = StandsFor file entries ⊎ StandsFor file (entries ++ entry ∷ [])
+IsBeforeOrAfter entries entry file = StandsWithGate file entries ⊎ StandsWithGate file (entries ++ entry ∷ [])

@@ -1,7 +1,7 @@
 -- What the reading of a frame answers.
 use Rattle.std.specs.Prelude.{◌≡◌, ◌≢◌, ⊤, ℕ, ◌+◌, ◌*◌, ◌<◌, ◌≤◌, List, [], ◌∷◌, ◌++◌, length, take, drop, slice_get, Option, Some, None, Result, Ok, Err}
 use Rattle.gate_vault.specs.declared.errors.VaultError.{VaultError}
-use Rattle.gate_vault.specs.declared.errors.VaultError.TheVariants.{Broken, TooLong, DiskFault, NotAVault, Damaged, OutOfMemory}
+use Rattle.gate_vault.specs.declared.errors.VaultError.TheVariants.{DiskFault, NotAVault, Damaged, OutOfMemory}
 use Rattle.gate_vault.specs.declared.start.FrameStart.{FrameStart}
 use Rattle.gate_vault.specs.declared.start.FrameStart.TheVariants.{Closed, Cut, Payload}
 use Rattle.gate_vault.specs.File.{head, payload, gate_after, IsClosed, IsNoPayload, StandsFor, AreShort, HeadDiffers, IsDamagedAt}
@@ -33,14 +33,6 @@ FrameRead at file (Err (Damaged place)) = (place ≡ at) × IsBadFrame (drop at 
 FrameRead at file (Err DiskFault) = ⊤
 FrameRead at file (Err OutOfMemory) = ⊤
 FrameRead at file (Err _) = ⊥
-
--- the file stands for the entries, within the limit, or is damaged behind the head
-abbrev pub EntriesRead : List ℕ → Result (List (List ℕ) × ℕ) VaultError → Type 0
-EntriesRead file (Ok read) = StandsFor file read.0 × AreShort read.0 × (read.1 ≡ gate_after read.0)
-EntriesRead file (Err (Damaged place)) = IsDamagedAt file place
-EntriesRead file (Err DiskFault) = ⊤
-EntriesRead file (Err OutOfMemory) = ⊤
-EntriesRead file (Err _) = ⊥
 
 -- the bytes first differ from the head at this place
 pub record DiffersFirst (bytes : List ℕ) (at : ℕ) : Type 0 where

@@ -31,6 +31,6 @@ pub record IsKept (seen : Option (List ℕ)) (outcomes : List ℕ → Type 0) (e
   pub stands : StandsWithGate file entries
   pub only : Only file outcomes
 
--- the disk tells a file that stands for these entries, or for these and one more
+-- the disk tells a file that stands for these entries, or for these and one more, with the byte of its last gate
 abbrev pub TellsBeforeOrAfter : Option (List ℕ) → List (List ℕ) → List ℕ → Type 0
 TellsBeforeOrAfter seen entries entry = (file : List ℕ) × (seen ≡ Some file) × IsBeforeOrAfter entries entry file

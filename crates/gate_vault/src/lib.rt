@@ -1,4 +1,4 @@
-//! A vault: a file of entries on a disk. What was acknowledged survives a crash at any moment.
+//! A vault: a file of entries on a disk. Once an entry is acknowledged, every crash leaves it.
 //!
 //! - [`Vault`]: made by [`Vault::format`] or [`Vault::load`], which gives its [`Entries`]; [`Vault::append`] adds one;
 //!   [`VaultError`]. [`stands_for_one`] and [`never_refused`] hold of every file.
@@ -13,6 +13,8 @@ mod laws;
 mod load;
 mod put;
 mod start;
+#[cfg(test)]
+mod tests;
 mod twice;
 mod vault;
 

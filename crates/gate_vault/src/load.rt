@@ -1,12 +1,12 @@
 // Reading a vault file: the head, and then frame by frame up to a closed gate.
 ghost use Rattle.std.specs.Prelude.{◌≡◌, ◌≤◌, ◌<◌, ◌+◌, ◌-◌, ◌^◌, ◌++◌, ◌∷◌, [], List, ℕ, Some, None, length, take, drop, slice_get, MatchOption, OnOk, IfSome, IfOk, IfErr, IsErrOf};
-ghost use Rattle.spec_base.specs.Crash.{Only, NoneNew};
+ghost use Rattle.spec_base.specs.Crash.{Only, NoneNew, Elapses};
 ghost use Rattle.spec_base.specs.Faults.{StaysSound};
 ghost use Rattle.gate_vault.specs.declared.errors.VaultError.TheVariants.{DiskFault};
 ghost use Rattle.gate_vault.specs.Put.{FailedTwice};
 ghost use Rattle.gate_vault.specs.Stops.{IsStop, IsStopOrDamaged, IsStopOrNoVault, IsLoadError};
 ghost use Rattle.gate_vault.specs.File.{head};
-ghost use Rattle.gate_vault.specs.Frames.{FrameRead, EntriesRead, DiffersFirst, HeadRead, FileRead};
+ghost use Rattle.gate_vault.specs.Frames.{FrameRead, DiffersFirst, HeadRead, FileRead};
 
 use crate::errors::VaultError;
 use crate::frame_start::frame_start;
@@ -26,6 +26,7 @@ const HEAD: [u8; 8] = [b'B', b'E', b'L', b'V', b'A', b'U', b'L', b'T'];
 /// No file is so long that a gate stands here.
 const MOST_GATE: u64 = 1 << 62;
 
+#[tactic(auto, using(crate::proofs::Again::quiet_then))]
 /// Reads `len` bytes from an offset on, or as many as there are.
 pub fn read_bytes<D: Disk>(
     alloc: Global,
@@ -39,6 +40,7 @@ pub fn read_bytes<D: Disk>(
     ensures stopped { IfErr result IsStop }
     ensures seen { D.seen disk.new ≡ D.seen disk.old }
     ensures none_new { NoneNew (D.may_leave disk.old) (D.may_leave disk.new) }
+    ensures time { Elapses (D.moment disk.old) (D.moment disk.new) (D.left_since disk.old) (D.left_since disk.new) (D.may_leave disk.old) }
     ensures fault { IsErrOf result DiskFault → FailedTwice (D.faults disk.old) (D.faults disk.new) (D.in_a_row disk.new) }
     ensures no_fall { D.faults disk.old ≤ D.faults disk.new }
     ensures sound { StaysSound (D.never_fails disk.old) (D.never_fails disk.new) (D.faults disk.old) (D.faults disk.new) }
@@ -55,6 +57,7 @@ pub fn read_bytes<D: Disk>(
     Ok(bytes)
 }
 
+#[tactic(auto, using(crate::proofs::Again::quiet_then))]
 /// Reads one frame: None where no frame stands at the offset, but a closed gate or the end of the file.
 pub fn read_frame<D: Disk>(
     alloc: Global,
@@ -67,6 +70,7 @@ pub fn read_frame<D: Disk>(
     ensures named { IsStopOrDamaged result }
     ensures seen { D.seen disk.new ≡ D.seen disk.old }
     ensures none_new { NoneNew (D.may_leave disk.old) (D.may_leave disk.new) }
+    ensures time { Elapses (D.moment disk.old) (D.moment disk.new) (D.left_since disk.old) (D.left_since disk.new) (D.may_leave disk.old) }
     ensures fault { IsErrOf result DiskFault → FailedTwice (D.faults disk.old) (D.faults disk.new) (D.in_a_row disk.new) }
     ensures no_fall { D.faults disk.old ≤ D.faults disk.new }
     ensures sound { StaysSound (D.never_fails disk.old) (D.never_fails disk.new) (D.faults disk.old) (D.faults disk.new) }
@@ -87,12 +91,14 @@ pub fn read_frame<D: Disk>(
     Ok(Some(entry))
 }
 
+#[tactic(auto, using(crate::proofs::Again::quiet_then))]
 /// Reads the frames behind the head, up to a closed gate, and answers their entries and where that gate stands.
 pub fn read_entries<D: Disk>(alloc: Global, disk: &mut D) -> Result<(Entries, u64), VaultError>
-    ensures entries { (file : List ℕ) → D.seen disk.old ≡ Some file → take 8 file ≡ head → EntriesRead file result }
+    ensures entries { (file : List ℕ) → D.seen disk.old ≡ Some file → take 8 file ≡ head → FileRead file result }
     ensures named { IsStopOrDamaged result }
     ensures seen { D.seen disk.new ≡ D.seen disk.old }
     ensures none_new { NoneNew (D.may_leave disk.old) (D.may_leave disk.new) }
+    ensures time { Elapses (D.moment disk.old) (D.moment disk.new) (D.left_since disk.old) (D.left_since disk.new) (D.may_leave disk.old) }
     ensures fault { IsErrOf result DiskFault → FailedTwice (D.faults disk.old) (D.faults disk.new) (D.in_a_row disk.new) }
     ensures no_fall { D.faults disk.old ≤ D.faults disk.new }
     ensures sound { StaysSound (D.never_fails disk.old) (D.never_fails disk.new) (D.faults disk.old) (D.faults disk.new) }
@@ -129,6 +135,7 @@ fn check_head<D: Disk>(alloc: Global, disk: &mut D) -> Result<(), VaultError>
     ensures named { IsStopOrNoVault result }
     ensures seen { D.seen disk.new ≡ D.seen disk.old }
     ensures none_new { NoneNew (D.may_leave disk.old) (D.may_leave disk.new) }
+    ensures time { Elapses (D.moment disk.old) (D.moment disk.new) (D.left_since disk.old) (D.left_since disk.new) (D.may_leave disk.old) }
     ensures fault { IsErrOf result DiskFault → FailedTwice (D.faults disk.old) (D.faults disk.new) (D.in_a_row disk.new) }
     ensures no_fall { D.faults disk.old ≤ D.faults disk.new }
     ensures sound { StaysSound (D.never_fails disk.old) (D.never_fails disk.new) (D.faults disk.old) (D.faults disk.new) }
@@ -143,6 +150,7 @@ fn check_head<D: Disk>(alloc: Global, disk: &mut D) -> Result<(), VaultError>
     }
 }
 
+#[tactic(auto, using(crate::proofs::Again::quiet_then))]
 /// Syncs, and reads the whole file.
 pub fn read_file<D: Disk>(alloc: Global, disk: &mut D) -> Result<(Entries, u64), VaultError>
     ensures file { (file : List ℕ) → D.seen disk.old ≡ Some file → FileRead file result }
@@ -150,6 +158,7 @@ pub fn read_file<D: Disk>(alloc: Global, disk: &mut D) -> Result<(Entries, u64),
     ensures named { IfErr result IsLoadError }
     ensures seen { D.seen disk.new ≡ D.seen disk.old }
     ensures none_new { NoneNew (D.may_leave disk.old) (D.may_leave disk.new) }
+    ensures time { Elapses (D.moment disk.old) (D.moment disk.new) (D.left_since disk.old) (D.left_since disk.new) (D.may_leave disk.old) }
     ensures fault { IsErrOf result DiskFault → FailedTwice (D.faults disk.old) (D.faults disk.new) (D.in_a_row disk.new) }
     ensures no_fall { D.faults disk.old ≤ D.faults disk.new }
     ensures sound { StaysSound (D.never_fails disk.old) (D.never_fails disk.new) (D.faults disk.old) (D.faults disk.new) }

@@ -14,6 +14,7 @@ pub fn read_twice<D: Disk>(disk: &mut D, at: u64, into: &mut [u8]) -> Result<usi
     ensures given { IfOk result (λ n. IfSome (D.seen disk.old) (GivesPart at n into.new)) }
     ensures seen { D.seen disk.new ≡ D.seen disk.old }
     ensures none_new { NoneNew (D.may_leave disk.old) (D.may_leave disk.new) }
+    ensures time { Elapses (D.moment disk.old) (D.moment disk.new) (D.left_since disk.old) (D.left_since disk.new) (D.may_leave disk.old) }
     ensures fault { IsErrOf result Failed → FailedTwice (D.faults disk.old) (D.faults disk.new) (D.in_a_row disk.new) }
     ensures no_fall { D.faults disk.old ≤ D.faults disk.new }
     ensures sound { StaysSound (D.never_fails disk.old) (D.never_fails disk.new) (D.faults disk.old) (D.faults disk.new) }

@@ -1,5 +1,5 @@
 use Rattle.std.proofs.Common.{◌≡◌, ◌+◌, ◌++◌, ◌∷◌, [], ℕ, List, Option, length, inl, subst}
-use Rattle.gate_vault.specs.File.{payload, gate_after, StandsFor, StandsWithGate, IsBeforeOrAfter}
+use Rattle.gate_vault.specs.File.{payload, gate_after, StandsFor}
 use Rattle.gate_vault.specs.Put.{WrittenOver, IsPut, IsTornPut, IsKept, TellsBeforeOrAfter}
 use Rattle.gate_vault.proofs.Again.{on_ok_then, on_err_then, on_err_always}
 use Rattle.gate_vault.proofs.FrameBytes.{IsStaged, stands_with, torn_behind, written_behind, torn_gate, written_gate, staged_stands}

@@ -2,6 +2,7 @@ use Rattle.std.proofs.Common.{◌≡◌, ℕ, ◌+◌, ◌-◌, ◌++◌, length
 use Rattle.std.proofs.lemmas.Grind.{common_steps}
 use Rattle.std.proofs.lemmas.List.{length-take}
 use Rattle.spec_base.specs.Disk.{GivesPart}
+use Rattle.gate_vault.proofs.Again.{quiet_then}
 use Rattle.gate_vault.proofs.ReadLemmas.{read_step, seen_part, sound_then}
 use Rattle.gate_vault.proofs.load.read_bytes.Goals as goal
 
@@ -19,6 +20,7 @@ loop-piece-preserved g c =
           next;
       seen = search rules;
       none_new = λ f left. c.loop-piece.invariant.none_new f (c.in_ok-count.ensures.none_new f left);
+      time = quiet_then _ _ _ _ _ _ _ _ c.loop-piece.invariant.time c.loop-piece.invariant.none_new c.in_ok-count.ensures.time;
       faults = search rules;
       sound = sound_then _ _ _ _ _ _ c.loop-piece.invariant.sound c.in_ok-count.ensures.sound;
     }

@@ -1,6 +1,7 @@
-use Rattle.std.proofs.Common.{◌≡◌, ◌≤◌, ◌+◌, ◌++◌, ◌∷◌, [], ◌∙◌, List, ℕ, Option, Ok, length, drop, sym, ap, subst, arith, rules}
-use Rattle.gate_vault.specs.File.{payload, gate_after, AreShort}
+use Rattle.std.proofs.Common.{◌≡◌, ◌≤◌, ◌+◌, ◌++◌, ◌∷◌, [], ◌∙◌, List, ℕ, Option, Ok, length, sym, ap, subst, arith, rules}
+use Rattle.gate_vault.specs.File.{gate_after, AreShort}
 use Rattle.gate_vault.specs.Frames.{FrameRead}
+use Rattle.gate_vault.proofs.Again.{quiet_then}
 use Rattle.gate_vault.proofs.FrameBytes.{areshort-append, gate_after-append}
 use Rattle.gate_vault.proofs.FrameReads.{next_read}
 use Rattle.gate_vault.proofs.ReadLemmas.{sound_then}
@@ -25,6 +26,7 @@ loop-gate-preserved g c =
           next_read entries entry file gate (gate + (3 + c.len.result)) (before.read file told begins) frame.1 (omega arith) c.push.new.self grown;
       seen = search rules;
       none_new = λ f left. before.none_new f (c.in_ok-entry.ensures.none_new f left);
+      time = quiet_then _ _ _ _ _ _ _ _ before.time before.none_new c.in_ok-entry.ensures.time;
       faults = search rules;
       sound = sound_then _ _ _ _ _ _ before.sound c.in_ok-entry.ensures.sound;
     }

@@ -1,5 +1,5 @@
-use Rattle.std.proofs.Common.{◌≡◌, ◌≤◌, ◌+◌, ◌-◌, ◌^◌, ◌++◌, ℕ, List, Some, length, take, drop}
-use Rattle.spec_base.specs.Crash.{NoneNew}
+use Rattle.std.proofs.Common.{◌≡◌, ◌≤◌, ◌+◌, ◌-◌, ◌^◌, ◌++◌, ℕ, List, Some, take, drop}
+use Rattle.spec_base.specs.Crash.{NoneNew, Elapses}
 use Rattle.spec_base.specs.Faults.{StaysSound}
 use Rattle.gate_vault.specs.File.{head, frames, gate_after, AreShort}
 use Rattle.gate_vault.proofs.load.read_entries.Given as goal
@@ -12,6 +12,7 @@ invariant-loop-gate g l = record {
   read : (file : List ℕ) → g.D.Disk.seen l.fn.disk ≡ Some file → take 8 file ≡ head → file ≡ head ++ frames l.entries ++ drop l.gate file;
   seen : g.D.Disk.seen l.disk ≡ g.D.Disk.seen l.fn.disk;
   none_new : NoneNew (g.D.Disk.may_leave l.fn.disk) (g.D.Disk.may_leave l.disk);
+  time : Elapses (g.D.Disk.moment l.fn.disk) (g.D.Disk.moment l.disk) (g.D.Disk.left_since l.fn.disk) (g.D.Disk.left_since l.disk) (g.D.Disk.may_leave l.fn.disk);
   faults : g.D.Disk.faults l.fn.disk ≤ g.D.Disk.faults l.disk;
   sound : StaysSound (g.D.Disk.never_fails l.fn.disk) (g.D.Disk.never_fails l.disk) (g.D.Disk.faults l.fn.disk) (g.D.Disk.faults l.disk);
 }

@@ -2,7 +2,7 @@ use Rattle.std.proofs.Common.{◌≡◌, ◌∙◌, ◌++◌, ◌∷◌, [], ari
 use Rattle.gate_vault.specs.File.{payload}
 use Rattle.gate_vault.specs.Put.{TellsBeforeOrAfter}
 use Rattle.gate_vault.proofs.Again.{on_err_always}
-use Rattle.gate_vault.proofs.FrameBytes.{stands_with, areshort-append, gate_after-append}
+use Rattle.gate_vault.proofs.FrameBytes.{areshort-append, gate_after-append}
 use Rattle.gate_vault.proofs.vault.Vault.append.Goals as goal
 
 pub returns-in_err-write_frame-clause-any_moment : goal.returns-in_err-write_frame-clause-any_moment
