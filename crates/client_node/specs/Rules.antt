@@ -1,6 +1,6 @@
 -- A client's rules, one for each event and kind of message.
 use Rattle.std.specs.Prelude.{ℕ, ◌+◌, ◌%◌, ◌^◌, ◌==◌, ◌&&◌, Bool, not, nat_lt, if◌then◌else◌, List, [], ◌∷◌, ◌++◌, length, slice_get, Option}
-use Rattle.std.specs.List.{fold, range_with_len}
+use Rattle.std.specs.List.{fold}
 use Rattle.std.specs.Option.{option_map_or}
 use Rattle.fix_ante.specs.declared.spots.Spot.{Spot}
 use Rattle.cut_core.specs.Agreements.{Agreement}
@@ -13,7 +13,7 @@ use Rattle.node_rules.specs.Names.marks
 use Rattle.node_rules.specs.Names.whats
 use Rattle.node_rules.specs.Turns.{Turn, me_of, own_of, agreed, put_own, store, send, send_all, show}
 use Rattle.node_rules.specs.Rules.{tick}
-use Rattle.client_node.specs.States.{ClientState, count_submitted, home_replicas, is_home_gone, is_in_reach}
+use Rattle.client_node.specs.States.{ClientState, count_submitted, home_replicas, is_home_gone, reach, is_in_reach, numbers_in_reach}
 
 -- ---- what a client sends
 
@@ -25,7 +25,7 @@ append t number =
 
 -- each submitted body in reach
 abbrev pub append_all : Turn ClientState → Turn ClientState
-append_all t = fold append t (range_with_len (own_of t).acked 8)
+append_all t = fold append t (numbers_in_reach t)
 
 -- both replicas of a home that is gone are asked what became of the records
 abbrev pub ask_fate : Turn ClientState → Turn ClientState
@@ -54,7 +54,7 @@ with_ack s = record s { acked = s.acked + 1 }
 
 -- after an acknowledged number the one that comes into reach is sent, or the fate of the rest asked for
 abbrev pub go_on : ℕ → Turn ClientState → Turn ClientState
-go_on number t = if is_home_gone t then ask_fate t else append t (number + 8)
+go_on number t = if is_home_gone t then ask_fate t else append t (number + reach)
 
 abbrev pub acknowledged : ℕ → ℕ → Turn ClientState → Turn ClientState
 acknowledged number position t =

@@ -1,5 +1,6 @@
 -- What a client has: its submissions, how many of them are acknowledged, its home, and the first number that it sends there.
 use Rattle.std.specs.Prelude.{ℕ, ◌+◌, Bool, ◌&&◌, nat_lt, nat_le, is_some, List, [], length}
+use Rattle.std.specs.List.{range_with_len}
 use Rattle.cut_core.specs.Map.{gone_end}
 use Rattle.msg_wire.specs.Nodes.{replicas_of}
 use Rattle.node_rules.specs.Names.{NodeId}
@@ -29,6 +30,14 @@ home_replicas t = replicas_of (own_of t).home
 abbrev pub is_home_gone : Turn ClientState → Bool
 is_home_gone t = is_some (gone_end (agreed t) (own_of t).home)
 
--- a number is one of the 8 from the acknowledged count on
+-- how many numbers from the acknowledged count on a client sends
+unfoldable pub reach : ℕ
+reach = 8
+
+-- a number is one of these
 abbrev pub is_in_reach : ℕ → Turn ClientState → Bool
-is_in_reach number t = nat_le (own_of t).acked number && nat_lt number ((own_of t).acked + 8)
+is_in_reach number t = nat_le (own_of t).acked number && nat_lt number ((own_of t).acked + reach)
+
+-- all of them, rising
+abbrev pub numbers_in_reach : Turn ClientState → List ℕ
+numbers_in_reach t = range_with_len (own_of t).acked reach

@@ -1,9 +1,17 @@
-//! A client, as definitions: its state and its step table.
+//! A client: it keeps what was submitted to it, sends it to its home's primary until it is acknowledged, and moves to
+//! another shard once its home is gone.
 //!
-//! `specs/Steps.antt` has `client_step`, which gives the turn of each event: what is stored, sent and shown, and the
-//! state that follows. `specs/Restart.antt` says what a vault's items alone give.
+//! [`ClientNode`] takes the steps of `specs/Steps.antt`, exactly. `specs/Restart.antt` says what a vault's items alone
+//! give. The laws of a client's life stand in [`laws`].
 #![tactic(auto)]
 
+mod client;
+pub mod laws;
+mod own;
+mod restart;
 mod rows;
+mod rules;
+mod sends;
 
+pub use client::ClientNode;
 pub use rows::rows_compute;

@@ -4,4 +4,5 @@ pub mod Speculation
 pub mod Rules
 pub mod Steps
 pub mod Restart
+pub mod Laws
 pub mod Rows

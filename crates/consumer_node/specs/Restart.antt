@@ -8,9 +8,9 @@ use Rattle.node_rules.specs.Names.{NodeId, Config, Record, Item}
 use Rattle.node_rules.specs.Names.items
 use Rattle.node_rules.specs.Nodes.{Node, fresh_base, reset_base, agreed_by, fit_known, with_own}
 use Rattle.consumer_node.specs.Apps.{Meaning}
-use Rattle.consumer_node.specs.States.{ConsumerState, fresh_consumer, with_lanes}
+use Rattle.consumer_node.specs.States.{ConsumerState, fresh_consumer}
 use Rattle.consumer_node.specs.Speculation.{with_confirmed}
-use Rattle.consumer_node.specs.Rules.{close}
+use Rattle.consumer_node.specs.Rules.{close_gone}
 
 abbrev pub fresh_node : {A : Type 0} → Meaning A → Config → NodeId → Node (ConsumerState A)
 fresh_node app cfg me = record { base = fresh_base cfg me; own = fresh_consumer app cfg.app }
@@ -27,7 +27,7 @@ fit app n _ = n
 
 -- the shards that are gone end at their ends
 abbrev pub closed_by : {A : Type 0} → Node (ConsumerState A) → Node (ConsumerState A)
-closed_by n = with_own (with_lanes (fold close n.own.lanes (agreed_by n.base).gone) n.own) n
+closed_by n = with_own (close_gone (agreed_by n.base) n.own) n
 
 -- what the items alone give
 abbrev pub restart_of : {A : Type 0} → Meaning A → Config → NodeId → List Item → Node (ConsumerState A)

@@ -1,16 +1,15 @@
 -- A consumer's rules: Deliver, a learned entry, and Tick.
-use Rattle.std.specs.Prelude.{ℕ, ◌-◌, Bool, true, false, nat_lt, if◌then◌else◌, List, take}
+use Rattle.std.specs.Prelude.{ℕ, ◌-◌, Bool, nat_lt, if◌then◌else◌, List, take}
 use Rattle.std.specs.List.{fold, range_with_len}
 use Rattle.std.specs.Option.{option_map_or}
 use Rattle.fix_ante.specs.declared.spots.Owner.{Owner}
 use Rattle.cut_core.specs.declared.effects.Effect.{Effect}
 use Rattle.cut_core.specs.declared.effects.Effect.TheVariants.{Removed}
-use Rattle.cut_core.specs.Agreements.{Agreement, Gone}
+use Rattle.cut_core.specs.declared.gone.Gone.{Gone}
+use Rattle.cut_core.specs.Agreements.{Agreement}
 use Rattle.cut_core.specs.Effects.{effect_of}
 use Rattle.cut_core.specs.Map.{mapped}
-use Rattle.spec_delivery.specs.declared.put.Put.{Put}
-use Rattle.spec_delivery.specs.declared.put.Put.TheVariants as puts
-use Rattle.spec_delivery.specs.Lanes.{LaneState}
+use Rattle.spec_delivery.specs.Lanes.{LaneState, is_kept}
 use Rattle.spec_delivery.specs.Buffers.{answer_to, with_record, with_end}
 use Rattle.msg_wire.specs.Nodes.{replicas_of}
 use Rattle.node_rules.specs.Names.{Record, Entry}
@@ -45,20 +44,18 @@ notice _ t = t
 abbrev pub close : List LaneState → Gone → List LaneState
 close lanes g = with_end lanes g.shard g.end
 
+-- each shard that is gone
+abbrev pub close_gone : {A : Type 0} → Agreement → ConsumerState A → ConsumerState A
+close_gone a s = with_lanes (fold close s.lanes a.gone) s
+
 abbrev pub close_all : {A : Type 0} → Turn (ConsumerState A) → Turn (ConsumerState A)
-close_all t = put_own (with_lanes (fold close (own_of t).lanes (agreed t).gone) (own_of t)) t
+close_all t = put_own (close_gone (agreed t) (own_of t)) t
 
 -- a learned entry
 abbrev pub on_learned : {A : Type 0} → Agreement → Entry → Turn (ConsumerState A) → Turn (ConsumerState A)
 on_learned before entry t = close_all (notice (effect_of before entry) t)
 
 -- ---- Tick
-
-abbrev pub is_kept : Put → Bool
-is_kept puts.Kept = true
-is_kept puts.Old = false
-is_kept puts.Far = false
-is_kept puts.Again = false
 
 -- a record of this owner would be held: it is in reach, and none is held
 abbrev pub is_wanted : List LaneState → Owner → Bool

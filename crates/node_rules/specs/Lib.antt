@@ -1,5 +1,9 @@
 pub mod Names
+pub mod Bases
+pub mod Sound
+pub mod Insides
 pub mod Nodes
 pub mod Turns
 pub mod Rules
+pub mod Lives
 pub mod Examples

@@ -1,14 +1,12 @@
 -- The rules of every node. What a kind of node does at a learned entry is a rule of that kind, given what was agreed before it.
-use Rattle.std.specs.Prelude.{ℕ, ◌+◌, ◌%◌, ◌^◌, ◌==◌, nat_lt, min, max, if◌then◌else◌, Option, Some, None}
+use Rattle.std.specs.Prelude.{ℕ, ◌==◌, nat_lt, if◌then◌else◌}
 use Rattle.std.specs.Option.{option_map_or}
 use Rattle.cut_core.specs.Agreements.{Agreement}
 use Rattle.node_rules.specs.Names.{NodeId, Entry, Message, What}
-use Rattle.node_rules.specs.Names.nodes
 use Rattle.node_rules.specs.Names.items
 use Rattle.node_rules.specs.Names.whats
-use Rattle.msg_wire.specs.Nodes.{is_sequencer, number_of}
 use Rattle.msg_wire.specs.Heeded.{is_heeded}
-use Rattle.node_rules.specs.Nodes.{knowing, has_slot}
+use Rattle.node_rules.specs.Nodes.{knowing, seeing, ticking, has_slot, asked_by}
 use Rattle.node_rules.specs.Turns.{Turn, cfg_of, me_of, count_known, agreed, put_base, store, send}
 
 -- a message that comes: one that isn't heeded does nothing by itself
@@ -17,10 +15,13 @@ heed rule m t = if is_heeded (cfg_of t) (me_of t) m then rule m.from m.what t el
 
 -- ---- a learned entry
 
--- the entry that is next is stored and known, and then the kind's rule follows
+-- the entry that is next is stored and known
+abbrev pub learned : {S : Type 0} → Entry → Turn S → Turn S
+learned entry t = put_base (knowing entry t.state.base) (store (items.Known entry) t)
+
+-- and then the kind's rule follows
 abbrev pub learn : {S : Type 0} → (Agreement → Entry → Turn S → Turn S) → Entry → Turn S → Turn S
-learn on_learned entry t =
-    on_learned (agreed t) entry (put_base (knowing entry t.state.base) (store (items.Known entry) t))
+learn on_learned entry t = on_learned (agreed t) entry (learned entry t)
 
 -- ---- Learn, from the asking side
 
@@ -32,7 +33,7 @@ ask to t = if has_slot t.state.base then send to (whats.Learn (count_known t)) t
 
 -- the greatest count that the node was told of
 abbrev pub with_seen : {S : Type 0} → ℕ → Turn S → Turn S
-with_seen count t = put_base (record (t.state.base) { seen = max t.state.base.seen count }) t
+with_seen count t = put_base (seeing count t.state.base) t
 
 -- the entry is learned where its slot is the next
 abbrev pub learn_next : {S : Type 0} → (Agreement → Entry → Turn S → Turn S) → ℕ → Entry → Turn S → Turn S
@@ -48,17 +49,10 @@ decided on_learned from slot count entry t = ask_on from (learn_next on_learned 
 
 -- ---- Tick, before the node's own rules
 
--- whom a tick asks: a sequencer asks the one after it, if there is another, any other node one sequencer after the other
-abbrev pub asked_by : {S : Type 0} → Turn S → Option NodeId
-asked_by t =
-    if is_sequencer (me_of t) then
-    (if nat_lt 1 (cfg_of t).seqs then Some (nodes.Seq ((number_of (me_of t) + 1) % (cfg_of t).seqs)) else None)
-    else Some (nodes.Seq (t.state.base.ticks % (cfg_of t).seqs))
-
--- the count of ticks stands still at 2^48
+-- a tick is counted
 abbrev pub with_tick : {S : Type 0} → Turn S → Turn S
-with_tick t = put_base (record (t.state.base) { ticks = min (t.state.base.ticks + 1) (2 ^ 48) }) t
+with_tick t = put_base (ticking t.state.base) t
 
 -- Tick: it asks for the next entry, and counts
 abbrev pub tick : {S : Type 0} → Turn S → Turn S
-tick t = with_tick (option_map_or (λ to. ask to t) (asked_by t) t)
+tick t = with_tick (option_map_or (λ to. ask to t) (asked_by t.state.base) t)

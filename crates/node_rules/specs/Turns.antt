@@ -14,6 +14,14 @@ pub record Turn (S : Type 0) : Type 0 where
 abbrev pub started : {S : Type 0} → Node S → Turn S
 started n = record { state = n; stable = []; sends = []; marks = [] }
 
+-- a node, and what a step of it has given so far
+abbrev pub turn_of : {S : Type 0} → Node S → Step → Turn S
+turn_of n step = record { state = n; stable = step.stable; sends = step.sends; marks = step.marks }
+
+-- a step that gives nothing
+abbrev pub empty_step : Step
+empty_step = record { stable = []; sends = []; marks = [] }
+
 -- what a turn gives to those outside the node
 abbrev pub step_of : {S : Type 0} → Turn S → Step
 step_of t = record { stable = t.stable; sends = t.sends; marks = t.marks }

@@ -5,4 +5,6 @@ pub mod Attempts
 pub mod Rules
 pub mod Steps
 pub mod Restart
+pub mod Sound
+pub mod Laws
 pub mod Rows

@@ -1,9 +1,6 @@
 -- What a sequencer has: its acceptors, the greatest reports, its wishes, at most one attempt, and how long it has been idle.
-use Rattle.std.specs.Prelude.{ℕ, ◌==◌, ◌&&◌, min, max, if◌then◌else◌, List, [], map, replicate, slice_index, slice_set, Option, Some, None, unwrap_or}
+use Rattle.std.specs.Prelude.{ℕ, ◌+◌, ◌-◌, ◌==◌, ◌&&◌, min, max, if◌then◌else◌, List, [], ◌++◌, map, length, replicate, get_or, slice_index, slice_set, Option, Some, None}
 use Rattle.std.specs.List.{range_with_len}
-use Rattle.std.specs.Ordering.{nat_cmp, eq_by_cmp}
-use Rattle.std.specs.BTreeMap.{insert_entry}
-use Rattle.std.specs.Map.{lookup}
 use Rattle.majority.specs.Acceptors.{AcceptorState, fresh_acceptor}
 use Rattle.majority.specs.Proposers.{Attempt}
 use Rattle.node_rules.specs.Names.{NodeId, Entry, Command}
@@ -16,10 +13,10 @@ pub record SlotAttempt : Type 0 where
   pub attempt : Attempt Entry
   pub wished : Option Entry
 
--- the acceptors of the slots that have one, in order of slot; the greatest length that each shard's primary and each
+-- the acceptors of the slots from 0 on, up to the last that has one; the greatest length that each shard's primary and each
 -- shard's backup reported; the wishes, the oldest first; the attempt; the ticks since something happened
 pub record SequencerState : Type 0 where
-  pub acceptors : List (ℕ × AcceptorState Entry)
+  pub acceptors : List (AcceptorState Entry)
   pub primaries : List ℕ
   pub backups : List ℕ
   pub wishes : List Command
@@ -27,7 +24,7 @@ pub record SequencerState : Type 0 where
   pub idle : ℕ
 
 -- with these acceptors, and nothing else
-abbrev pub only_acceptors : List (ℕ × AcceptorState Entry) → SequencerState
+abbrev pub only_acceptors : List (AcceptorState Entry) → SequencerState
 only_acceptors acceptors = record {
   acceptors = acceptors;
   primaries = replicate 6 0;
@@ -44,10 +41,14 @@ fresh_sequencer = only_acceptors []
 
 -- the acceptor of a slot; a slot that nobody asked for has a fresh one
 abbrev pub acceptor_at : SequencerState → ℕ → AcceptorState Entry
-acceptor_at s slot = unwrap_or (lookup (eq_by_cmp nat_cmp slot) s.acceptors) fresh_acceptor
+acceptor_at s slot = get_or s.acceptors slot fresh_acceptor
+
+-- acceptors of so many slots at least: those beyond the last one are fresh
+abbrev pub reaching : ℕ → List (AcceptorState Entry) → List (AcceptorState Entry)
+reaching count acceptors = acceptors ++ replicate (count - length acceptors) fresh_acceptor
 
 abbrev pub with_acceptor : ℕ → AcceptorState Entry → SequencerState → SequencerState
-with_acceptor slot acceptor s = record s { acceptors = insert_entry nat_cmp s.acceptors slot acceptor }
+with_acceptor slot acceptor s = record s { acceptors = slice_set (reaching (slot + 1) s.acceptors) slot acceptor }
 
 -- ---- reports
 

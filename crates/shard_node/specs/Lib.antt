@@ -5,4 +5,6 @@ pub mod Rules
 pub mod Promises
 pub mod Steps
 pub mod Restart
+pub mod Sound
+pub mod Laws
 pub mod Rows

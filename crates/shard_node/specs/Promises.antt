@@ -29,6 +29,10 @@ abbrev pub promise : Turn ReplicaState → ℕ → Turn ReplicaState
 promise t local =
     put_own (with_promised (local + 1) (own_of t)) (promise_record (lease_of t local) (slice_get (log_of t) local) local t)
 
+-- all that can be promised is
+abbrev pub promise_some : Turn ReplicaState → Turn ReplicaState
+promise_some t = fold promise t (to_promise t)
+
 -- a primary promises all that it can
 abbrev pub promise_all : Turn ReplicaState → Turn ReplicaState
-promise_all t = if is_primary (me_of t) then fold promise t (to_promise t) else t
+promise_all t = if is_primary (me_of t) then promise_some t else t

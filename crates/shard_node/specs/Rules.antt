@@ -53,9 +53,13 @@ hear_ask_fate client first least t = fate_at (gone_end (agreed t) (shard_of t)) 
 abbrev pub replicate_again : Turn ReplicaState → ℕ → Turn ReplicaState
 replicate_again t local = option_map_or (λ rec. replicate_at local rec t) (slice_get (log_of t) local) t
 
+-- so are those at several locals
+abbrev pub replicate_from : ℕ → ℕ → Turn ReplicaState → Turn ReplicaState
+replicate_from local count t = fold replicate_again t (range_with_len local count)
+
 -- a primary sends its backup the next 8 records that aren't known to be durable
 abbrev pub replicate_some : Turn ReplicaState → Turn ReplicaState
-replicate_some t = if is_primary (me_of t) then fold replicate_again t (range_with_len (own_of t).durable 8) else t
+replicate_some t = if is_primary (me_of t) then replicate_from (own_of t).durable 8 t else t
 
 -- Tick
 abbrev pub on_tick : Turn ReplicaState → Turn ReplicaState

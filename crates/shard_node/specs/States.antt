@@ -3,14 +3,14 @@ use Rattle.std.specs.Prelude.{ℕ, Bool, max, if◌then◌else◌, List, [], len
 use Rattle.cut_core.specs.Map.{covered_locals, gone_end}
 use Rattle.msg_wire.specs.Nodes.{is_primary, number_of}
 use Rattle.node_rules.specs.Names.{Record}
+use Rattle.node_rules.specs.Nodes.{Node}
 use Rattle.node_rules.specs.Turns.{Turn, me_of, own_of, agreed, put_own}
+use Rattle.shard_node.specs.declared.state.ReplicaState.{ReplicaState as ReplicaStateOf}
 
 -- the shard's records by local; how many of them the primary knows both replicas to hold; how many of them it has
 -- promised and delivered. The last two are asked of a primary alone: a backup's log is durable whole
-pub record ReplicaState : Type 0 where
-  pub log : List Record
-  pub durable : ℕ
-  pub promised : ℕ
+abbrev pub ReplicaState : Type 0
+ReplicaState = ReplicaStateOf
 
 -- with this log, and durable and promised as far as it is covered
 abbrev pub replica_with : List Record → ℕ → ReplicaState
@@ -41,8 +41,11 @@ abbrev pub log_length : Turn ReplicaState → ℕ
 log_length t = length (log_of t)
 
 -- a primary's durable records, and all of a backup's
+abbrev pub durable_locals : Node ReplicaState → ℕ
+durable_locals n = if is_primary n.base.me then n.own.durable else length n.own.log
+
 abbrev pub durable_of : Turn ReplicaState → ℕ
-durable_of t = if is_primary (me_of t) then (own_of t).durable else log_length t
+durable_of t = durable_locals t.state
 
 -- how many of the shard's locals are covered
 abbrev pub covered_of : Turn ReplicaState → ℕ

@@ -24,10 +24,15 @@ hear from (whats.Fetch local) t = hear_fetch from local t
 hear from (whats.AskFate first least) t = hear_ask_fate from first least t
 hear from _ t = t
 
+-- what an event does by itself; a restart is no such event
+abbrev pub handle : Event → Turn ReplicaState → Turn ReplicaState
+handle (events.Deliver message) t = heed hear message t
+handle events.Tick t = on_tick t
+handle events.Restart t = t
+handle (events.Submit by body) t = t
+handle (events.Command command) t = t
+
 -- the step of each event; each but a restart ends with a primary's promises
 abbrev pub replica_step : Node ReplicaState → Event → Turn ReplicaState
-replica_step n (events.Deliver message) = promise_all (heed hear message (started n))
-replica_step n events.Tick = promise_all (on_tick (started n))
 replica_step n events.Restart = started (reset_of n)
-replica_step n (events.Submit by body) = promise_all (started n)
-replica_step n (events.Command command) = promise_all (started n)
+replica_step n event = promise_all (handle event (started n))

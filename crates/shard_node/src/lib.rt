@@ -1,9 +1,22 @@
-//! A replica of a shard, as definitions: its state and its step table.
+//! A replica of a shard: its state, its step table, and the node that is proved to make these steps.
 //!
-//! `specs/Steps.antt` has `replica_step`, which gives the turn of each event: what is stored, sent and shown, and the
-//! state that follows. `specs/Restart.antt` says what a vault's items alone give.
+//! - [`ShardNode`]: `new`, `restart`, `step` and readers. Each step is the turn that `replica_step` of
+//!   `specs/Steps.antt` gives.
+//! - [`laws`]: what holds of every life of valid events.
 #![tactic(auto)]
 
+pub mod laws;
+mod learning;
+mod logs;
+mod node;
+mod promises;
+mod puts;
+mod restart;
 mod rows;
+mod rules;
+mod state;
+mod steps;
 
+pub use node::ShardNode;
 pub use rows::rows_compute;
+pub use state::ReplicaState;

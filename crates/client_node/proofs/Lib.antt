@@ -1,0 +1,4 @@
+pub mod Folds
+pub mod Homes
+pub mod Sound
+pub mod Restarts

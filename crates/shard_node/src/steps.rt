@@ -1,0 +1,133 @@
+//! A replica's step: each event with its rules, and the promises that end the step.
+
+ghost use Rattle.std.specs.Prelude.{◌≡◌, ◌<◌, ◌≤◌, ◌^◌, IfOk, OnOk};
+ghost use Rattle.record_codec.specs.Entries.{IsValidEntry};
+ghost use Rattle.msg_wire.specs.Valid.{IsValidMessage, IsValidEvent};
+ghost use Rattle.msg_wire.specs.Steps.{IsValidStep};
+ghost use Rattle.node_rules.specs.Turns.{turn_of};
+ghost use Rattle.node_rules.specs.Rules.{heed, learn_next, decided};
+ghost use Rattle.shard_node.specs.Learning.{on_learned};
+ghost use Rattle.shard_node.specs.Steps.{hear, handle, replica_step};
+ghost use Rattle.shard_node.specs.Sound.{IsReplica};
+
+use crate::learning::on_learned;
+use crate::logs::{hear_append, hear_fill, hear_replicate};
+use crate::promises::promise_all;
+use crate::restart::reset;
+use crate::rules::{hear_ask_fate, hear_fetch, hear_replicated, on_tick};
+use crate::state::{Replica, covered_of};
+use msg_wire::{Event, Message, Step, What};
+use node_rules::empty_step;
+use quota_table::{Entry, OutOfMemory};
+use spec_base::NodeId;
+use std::alloc::Global;
+
+/// The step of an event. A restart leaves what the stored items give; a primary's step of any other event ends with
+/// its promises.
+pub fn react(replica: &mut Replica, alloc: Global, event: &Event) -> Result<Step, OutOfMemory>
+    requires sound { IsReplica replica.old }
+    requires valid { IsValidEvent event.now }
+    ensures turn { IfOk result (λ out. turn_of replica.new out ≡ replica_step replica.old event.now) }
+    ensures valid { IfOk result (λ out. IsValidStep out) }
+    ensures sound { OnOk result (IsReplica replica.new) }
+{
+    let mut out = empty_step(alloc);
+    if let Event::Restart = event {
+        reset(replica);
+        return Ok(out);
+    }
+    handle(replica, event, &mut out)?;
+    promise_all(replica, &mut out)?;
+    Ok(out)
+}
+
+/// What an event does by itself; a restart is no such event.
+fn handle(replica: &mut Replica, event: &Event, out: &mut Step) -> Result<(), OutOfMemory>
+    requires valid { IsValidEvent event.now }
+    requires durable { replica.old.own.durable ≤ 2 ^ 48 }
+    ensures { OnOk result (turn_of replica.new out.new ≡ handle event.now (turn_of replica.old out.old)) }
+{
+    match event {
+        Event::Deliver(message) => heed(replica, message, out),
+        Event::Tick => on_tick(replica, out),
+        Event::Restart | Event::Submit { .. } | Event::Command(_) => Ok(()),
+    }
+}
+
+/// A message that comes. One that is not heeded does nothing by itself.
+fn heed(replica: &mut Replica, message: &Message, out: &mut Step) -> Result<(), OutOfMemory>
+    requires { IsValidMessage message.now }
+    ensures { OnOk result (turn_of replica.new out.new ≡ heed hear message.now (turn_of replica.old out.old)) }
+{
+    if replica.heeds(message) {
+        hear(replica, message, out)
+    } else {
+        Ok(())
+    }
+}
+
+/// A message that is heeded.
+#[tactic(auto, using(crate::proofs::Limits::number_limit))]
+fn hear(replica: &mut Replica, message: &Message, out: &mut Step) -> Result<(), OutOfMemory>
+    requires { IsValidMessage message.now }
+    ensures { OnOk result (turn_of replica.new out.new ≡ hear message.now.from message.now.what (turn_of replica.old out.old)) }
+{
+    let from = message.from;
+    match &message.what {
+        What::Decided { slot, count, entry } => {
+            hear_decided(replica, from, *slot, *count, entry, out)
+        }
+        What::Append {
+            first,
+            number,
+            body,
+        } => hear_append(replica, from, *first, *number, body, out),
+        What::Fill { wanted } => hear_fill(replica, *wanted, out),
+        What::Replicate { local, rec } => hear_replicate(replica, from, *local, rec, out),
+        What::Replicated { len } => {
+            hear_replicated(replica, *len);
+            Ok(())
+        }
+        What::Fetch { local } => hear_fetch(replica, from, *local, out),
+        What::AskFate { first, least } => hear_ask_fate(replica, from, *first, *least, out),
+        _ => Ok(()),
+    }
+}
+
+/// Decided: a sequencer tells the entry of a slot, and how many it knows.
+fn hear_decided(
+    replica: &mut Replica,
+    from: NodeId,
+    slot: u32,
+    count: u32,
+    entry: &Entry,
+    out: &mut Step,
+) -> Result<(), OutOfMemory>
+    requires slot { slot < 1000000 }
+    requires count { count ≤ 1000000 }
+    requires entry { IsValidEntry entry.now }
+    ensures { OnOk result (turn_of replica.new out.new ≡ decided on_learned from slot count entry.now (turn_of replica.old out.old)) }
+{
+    replica.base.see(count);
+    learn_next(replica, slot, entry, out)?;
+    replica.ask_on(from, out)
+}
+
+/// Learns the entry where its slot is the next.
+fn learn_next(
+    replica: &mut Replica,
+    slot: u32,
+    entry: &Entry,
+    out: &mut Step,
+) -> Result<(), OutOfMemory>
+    requires slot { slot < 1000000 }
+    requires entry { IsValidEntry entry.now }
+    ensures { OnOk result (turn_of replica.new out.new ≡ learn_next on_learned slot entry.now (turn_of replica.old out.old)) }
+{
+    if slot != replica.base.count() {
+        return Ok(());
+    }
+    let before = covered_of(replica);
+    let effect = replica.learn(entry, out)?;
+    on_learned(replica, before, effect, out)
+}
