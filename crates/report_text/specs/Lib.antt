@@ -1,0 +1,7 @@
+pub mod Lines
+pub mod Slots
+pub mod Positions
+pub mod Consumers
+pub mod Clients
+pub mod Report
+pub mod Rows

@@ -1,0 +1,62 @@
+-- Which entries are chosen, and that an accepted cut covers what both replicas hold.
+use Rattle.std.specs.Prelude.{◌≡◌, ℕ, ◌+◌, ◌*◌, ◌≤◌, List, ◌∷◌, length, take, slice_get, All, Contains, Some, None}
+use Rattle.std.specs.List.{AllByRecursion}
+use Rattle.fix_ante.specs.declared.spots.Spot.{Spot}
+use Rattle.cut_core.specs.Reasons.{fault_of}
+use Rattle.majority.specs.Ballots.{IsMajority}
+use Rattle.net_model.specs.Pasts.{Past, Throughout}
+use Rattle.world.specs.Names.{Config, Entry, Item, HistoryEntry}
+use Rattle.world.specs.Names.nodes
+use Rattle.world.specs.Names.sides
+use Rattle.world.specs.Names.entries
+use Rattle.world.specs.Names.items
+use Rattle.world.specs.Kinds.{items_at, step_at}
+use Rattle.world.specs.Known.{agreed_after, log_at}
+
+-- ---- chosen entries
+
+-- a sequencer accepted the entry at the slot and the ballot
+abbrev pub HasAccepted : Config → Past → ℕ → ℕ → Entry → ℕ → Type 0
+HasAccepted cfg past slot ballot entry number = Contains (items_at cfg (nodes.Seq number) past) (items.Accepted slot ballot entry)
+
+-- a majority of the sequencers accepted the entry at the slot, at one ballot
+abbrev pub IsChosen : Config → Past → ℕ → Entry → Type 0
+IsChosen cfg past slot entry = (ballot : ℕ) × (voters : List ℕ) × IsMajority cfg.seqs voters × All (HasAccepted cfg past slot ballot entry) voters
+
+-- each of the entries is chosen at its place, from slot 0 on
+abbrev pub AreChosen : Config → Past → List Entry → Type 0
+AreChosen cfg past chosen = (slot : ℕ) (entry : Entry) → slice_get chosen slot ≡ Some entry → IsChosen cfg past slot entry
+
+-- ---- cuts
+
+-- how many locals of a row's shard stand up to the end of a round
+abbrev pub round_end : Spot → ℕ → ℕ
+round_end row round = row.start + (round + 1) * row.quota
+
+-- both replicas hold these, and they hold the same
+pub record HoldRound (cfg : Config) (past : Past) (round : ℕ) (row : Spot) : Type 0 where
+  pub primary : round_end row round ≤ length (log_at cfg row.shard sides.Primary past)
+  pub backup : round_end row round ≤ length (log_at cfg row.shard sides.Backup past)
+  pub agree : take (round_end row round) (log_at cfg row.shard sides.Primary past) ≡ take (round_end row round) (log_at cfg row.shard sides.Backup past)
+
+-- a cut that an entry accepts at a slot: it fits after the entries that are chosen for the slots below, and the replicas of
+-- each row hold its round, as the earlier entries leave them
+pub record IsTrueCutAfter (cfg : Config) (past : Past) (e : HistoryEntry) (slot window round : ℕ) (chosen : List Entry) : Type 0 where
+  pub below : length chosen ≡ slot
+  pub chosen_there : AreChosen cfg (e ∷ past) chosen
+  pub fits : fault_of (agreed_after cfg chosen) (entries.Cut window round) ≡ None
+  pub covered : AllByRecursion (HoldRound cfg past round) (agreed_after cfg chosen).current.spots
+
+abbrev pub IsTrueCut : Config → Past → HistoryEntry → ℕ → Entry → Type 0
+IsTrueCut cfg past e slot (entries.Cut window round) = (chosen : List Entry) × IsTrueCutAfter cfg past e slot window round chosen
+IsTrueCut cfg past e slot entries.Nothing = Unit {0}
+IsTrueCut cfg past e slot (entries.Table after rounds rows) = Unit {0}
+IsTrueCut cfg past e slot (entries.Remove window shard) = Unit {0}
+
+abbrev pub IsTrueAcceptance : Config → Past → HistoryEntry → Item → Type 0
+IsTrueAcceptance cfg past e (items.Accepted slot ballot entry) = IsTrueCut cfg past e slot entry
+IsTrueAcceptance cfg past e _ = Unit {0}
+
+-- of each item that an entry stores
+abbrev pub CutsAreTrue : Config → Past → Type 0
+CutsAreTrue cfg = Throughout (λ past e. AllByRecursion (IsTrueAcceptance cfg past e) (step_at cfg e.node past e.event).stable)

@@ -1,0 +1,84 @@
+-- The step tables of the four kinds of node, and what the entries of a past leave of each node.
+use Rattle.std.specs.Prelude.{ℕ, List}
+use Rattle.net_model.specs.Pasts.{Past}
+use Rattle.net_model.specs.Tables.{StepTable, items_of, state_of}
+use Rattle.node_rules.specs.Nodes.{Node}
+use Rattle.node_rules.specs.Turns.{step_of}
+use Rattle.seq_node.specs.States.{SequencerState}
+use Rattle.seq_node.specs.Steps.{sequencer_step}
+use Rattle.seq_node.specs.Restart as sequencer
+use Rattle.shard_node.specs.States.{ReplicaState}
+use Rattle.shard_node.specs.Steps.{replica_step}
+use Rattle.shard_node.specs.Restart as replica
+use Rattle.client_node.specs.States.{ClientState}
+use Rattle.client_node.specs.Steps.{client_step}
+use Rattle.client_node.specs.Restart as client
+use Rattle.app_law.specs.declared.any_app.AnyApp.{AnyApp}
+use Rattle.consumer_node.specs.Apps.{any_meaning}
+use Rattle.consumer_node.specs.States.{ConsumerState}
+use Rattle.consumer_node.specs.Steps.{consumer_step}
+use Rattle.consumer_node.specs.Restart as consumer
+use Rattle.world.specs.Names.{NodeId, Side, Config, Item, Event, Step}
+use Rattle.world.specs.Names.nodes
+
+-- ---- the table of each kind, at a node
+
+abbrev pub sequencer_table : Config → NodeId → StepTable (Node SequencerState)
+sequencer_table cfg node = record {
+  fresh = sequencer.fresh_node cfg node;
+  restart = sequencer.restart_of cfg node;
+  gives = λ n event. step_of (sequencer_step n event);
+  leaves = λ n event. (sequencer_step n event).state;
+}
+
+abbrev pub replica_table : Config → NodeId → StepTable (Node ReplicaState)
+replica_table cfg node = record {
+  fresh = replica.fresh_node cfg node;
+  restart = replica.restart_of cfg node;
+  gives = λ n event. step_of (replica_step n event);
+  leaves = λ n event. (replica_step n event).state;
+}
+
+abbrev pub client_table : Config → NodeId → StepTable (Node ClientState)
+client_table cfg node = record {
+  fresh = client.fresh_node cfg node;
+  restart = client.restart_of cfg node;
+  gives = λ n event. step_of (client_step n event);
+  leaves = λ n event. (client_step n event).state;
+}
+
+abbrev pub consumer_table : Config → NodeId → StepTable (Node (ConsumerState AnyApp))
+consumer_table cfg node = record {
+  fresh = consumer.fresh_node any_meaning cfg node;
+  restart = consumer.restart_of any_meaning cfg node;
+  gives = λ n event. step_of (consumer_step any_meaning n event);
+  leaves = λ n event. (consumer_step any_meaning n event).state;
+}
+
+-- ---- a node's state so far
+
+abbrev pub sequencer_after : Config → ℕ → Past → Node SequencerState
+sequencer_after cfg number past = state_of (sequencer_table cfg (nodes.Seq number)) (nodes.Seq number) past
+
+abbrev pub replica_after : Config → ℕ → Side → Past → Node ReplicaState
+replica_after cfg shard side past = state_of (replica_table cfg (nodes.Shard shard side)) (nodes.Shard shard side) past
+
+abbrev pub client_after : Config → ℕ → Past → Node ClientState
+client_after cfg number past = state_of (client_table cfg (nodes.Client number)) (nodes.Client number) past
+
+abbrev pub consumer_after : Config → ℕ → Past → Node (ConsumerState AnyApp)
+consumer_after cfg number past = state_of (consumer_table cfg (nodes.Consumer number)) (nodes.Consumer number) past
+
+-- ---- any node: its stable items so far, and what a step of it would store, send and show
+
+abbrev pub items_at : Config → NodeId → Past → List Item
+items_at cfg (nodes.Seq number) past = items_of (sequencer_table cfg (nodes.Seq number)) (nodes.Seq number) past
+items_at cfg (nodes.Shard shard side) past = items_of (replica_table cfg (nodes.Shard shard side)) (nodes.Shard shard side) past
+items_at cfg (nodes.Client number) past = items_of (client_table cfg (nodes.Client number)) (nodes.Client number) past
+items_at cfg (nodes.Consumer number) past = items_of (consumer_table cfg (nodes.Consumer number)) (nodes.Consumer number) past
+
+abbrev pub step_at : Config → NodeId → Past → Event → Step
+step_at cfg (nodes.Seq number) past event = step_of (sequencer_step (sequencer_after cfg number past) event)
+step_at cfg (nodes.Shard shard side) past event = step_of (replica_step (replica_after cfg shard side past) event)
+step_at cfg (nodes.Client number) past event = step_of (client_step (client_after cfg number past) event)
+step_at cfg (nodes.Consumer number) past event = step_of (consumer_step any_meaning (consumer_after cfg number past) event)

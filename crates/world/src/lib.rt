@@ -1,0 +1,12 @@
+//! The runs of a cluster, and what every run is to be: safe.
+//!
+//! - `specs/Runs.antt`: `IsRun`, the histories that follow the step tables of the four kinds of node.
+//! - `specs/Safety.antt`: `IsSafe`, the five laws of safety; `specs/Cuts.antt` and `specs/Eagerness.antt`: two laws more.
+//! - `specs/Playing.antt`: the history that a script's inputs make. [`PlayError`] says why an input is refused.
+//! - [`laws`]: what is shown of these definitions so far.
+#![tactic(auto)]
+
+mod errors;
+pub mod laws;
+
+pub use errors::PlayError;
