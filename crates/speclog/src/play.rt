@@ -1,6 +1,6 @@
 //! What `play` does with a script that was read to its end.
 
-ghost use Rattle.std.specs.Prelude.{◌≡◌, false, [], Some, is_some, IsTrue};
+ghost use Rattle.std.specs.Prelude.{◌≡◌, ◌≤◌, false, [], length, Some, is_some, IfSome, IsTrue};
 ghost use Rattle.std.specs.Result.{result_err};
 ghost use Rattle.spec_base.specs.Faults.{Rose};
 ghost use Rattle.speclog.specs.Answers.{status_of, is_played, is_of_whole_input, is_after_reading, is_of_playing, refusal_in, refusal_of, SpeaksOfOutput};
@@ -65,13 +65,16 @@ fn play_whole(alloc: Global, text: &[u8]) -> Result<Played, Fault>
     }
 }
 
-fn play_form(alloc: Global, form: Form) -> Result<Played, OutOfMemory> {
+/// Plays what a text of the form says.
+fn play_form(alloc: Global, form: Form) -> Result<Played, OutOfMemory>
+    requires { IfSome form.body (λ body. length body.now ≤ 1024) }
+{
     let table = match check(&[Asked { shard: 0, quota: 1 }]) {
         Ok(table) => table,
         Err(_) => unreachable!(),
     };
     let body = match form.body {
-        Some(bytes) => Body::new(alloc, bytes).ok(),
+        Some(bytes) => Some(Body::of(alloc, bytes)?),
         None => None,
     };
     let history = play(alloc, &table, body, form.drain)?;

@@ -1,7 +1,7 @@
 //! Which texts are scripts of the thin form: six fixed lines, then at most one `submit 0 BODY`, then at most one
 //! `drain N`, with single spaces and no leading zeros. A line ends with a newline or with the end of the text.
 
-ghost use Rattle.std.specs.Prelude.{◌≡◌, Some, None, IfOk, IfSome, is_some, if◌then◌else◌, position, ◌==◌, ◌≤◌, ◌&&◌, nat_le};
+ghost use Rattle.std.specs.Prelude.{◌≡◌, Some, None, IfOk, IfSome, IsTrue, is_some, length, if◌then◌else◌, position, ◌==◌, ◌≤◌, ◌&&◌, nat_le};
 ghost use Rattle.std.specs.List.{list_all};
 ghost use Rattle.speclog.specs.Form.{line_of, after_line, is_line, is_submit, is_drain, is_count, is_body, value_on, refused_line, refused_submit, refused_drain};
 ghost use Rattle.std.specs.Result.{result_err};
@@ -36,7 +36,8 @@ pub struct Refused(pub u32);
 /// Reads a text. It is refused exactly where one of its lines is not of the form, at the first such line; a text that
 /// ends before its sixth line is refused at the line after its last one.
 pub fn read(text: &[u8]) -> Result<Form<'_>, Refused>
-    ensures { option_map (λ r. r.0) (result_err result) ≡ refused_line text.now }
+    ensures refused { option_map (λ r. r.0) (result_err result) ≡ refused_line text.now }
+    ensures fits { IfOk result (λ form. IfSome form.body (λ body. length body.now ≤ 1024)) }
 {
     let rest = expect_line(text, HEAD[0], 1)?;
     let rest = expect_line(rest, HEAD[1], 2)?;
@@ -48,7 +49,8 @@ pub fn read(text: &[u8]) -> Result<Form<'_>, Refused>
 }
 
 fn read_inputs(text: &[u8]) -> Result<Form<'_>, Refused>
-    ensures { option_map (λ r. r.0) (result_err result) ≡ refused_submit 7 text.now }
+    ensures refused { option_map (λ r. r.0) (result_err result) ≡ refused_submit 7 text.now }
+    ensures fits { IfOk result (λ form. IfSome form.body (λ body. length body.now ≤ 1024)) }
 {
     let (line, rest) = split_line(text);
     match submitted(line) {
@@ -112,7 +114,8 @@ fn newline(text: &[u8]) -> Option<usize>
 
 /// The body of a `submit 0 BODY` line; without the space after the 0 it is empty.
 fn submitted(line: &[u8]) -> Option<&[u8]>
-    ensures { is_some result ≡ is_submit line.now }
+    ensures submit { is_some result ≡ is_submit line.now }
+    ensures fits { IfSome result (λ body. length body.now ≤ 1024) }
 {
     if line == b"submit 0".as_slice() {
         return Some(&[]);
@@ -124,7 +127,8 @@ fn submitted(line: &[u8]) -> Option<&[u8]>
 }
 
 fn is_body_text(bytes: &[u8]) -> bool
-    ensures { result ≡ is_body bytes.now }
+    ensures body { result ≡ is_body bytes.now }
+    ensures fits { IsTrue result → length bytes.now ≤ 1024 }
 {
     bytes.len() <= 1024 && is_printable(bytes)
 }
