@@ -115,9 +115,8 @@ fn offer(
 fn pass_on(replica: &Replica, local: u64, rec: Record, out: &mut Step) -> Result<(), OutOfMemory>
     ensures { OnOk result (turn_of replica.now out.new ≡ report (replicate_at local rec (store (TakenItem rec) (turn_of replica.now out.old)))) }
 {
-    let copy = rec.clone()?;
+    replicate_at(replica, local, &rec, out)?;
     replica.store(Item::Taken { rec }, out)?;
-    replicate_at(replica, local, &copy, out)?;
     report(replica, out)
 }
 
