@@ -78,7 +78,7 @@ items_at cfg (nodes.Client number) past = items_of (client_table cfg (nodes.Clie
 items_at cfg (nodes.Consumer number) past = items_of (consumer_table cfg (nodes.Consumer number)) (nodes.Consumer number) past
 
 abbrev pub step_at : Config → NodeId → Past → Event → Step
-step_at cfg (nodes.Seq number) past event = step_of (sequencer_step (sequencer_after cfg number past) event)
-step_at cfg (nodes.Shard shard side) past event = step_of (replica_step (replica_after cfg shard side past) event)
-step_at cfg (nodes.Client number) past event = step_of (client_step (client_after cfg number past) event)
-step_at cfg (nodes.Consumer number) past event = step_of (consumer_step any_meaning (consumer_after cfg number past) event)
+step_at cfg (nodes.Seq number) past event = (sequencer_table cfg (nodes.Seq number)).gives (sequencer_after cfg number past) event
+step_at cfg (nodes.Shard shard side) past event = (replica_table cfg (nodes.Shard shard side)).gives (replica_after cfg shard side past) event
+step_at cfg (nodes.Client number) past event = (client_table cfg (nodes.Client number)).gives (client_after cfg number past) event
+step_at cfg (nodes.Consumer number) past event = (consumer_table cfg (nodes.Consumer number)).gives (consumer_after cfg number past) event
