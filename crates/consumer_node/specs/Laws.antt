@@ -1,4 +1,4 @@
--- What holds of every life of a consumer, over any application.
+-- What is to hold of every life of a consumer, over any application: stated, and not proved yet.
 use Rattle.std.specs.Prelude.{◌≡◌, ◌≤◌, List, length}
 use Rattle.std.specs.List.{AllByRecursion}
 use Rattle.msg_wire.specs.Valid.{IsValidConfig, IsNodeOf, IsValidEvent}
