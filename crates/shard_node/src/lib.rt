@@ -16,6 +16,8 @@ mod rows;
 mod rules;
 mod state;
 mod steps;
+#[cfg(test)]
+mod tests;
 
 pub use node::ShardNode;
 pub use rows::rows_compute;
