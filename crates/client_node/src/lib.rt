@@ -12,6 +12,8 @@ mod restart;
 mod rows;
 mod rules;
 mod sends;
+#[cfg(test)]
+mod tests;
 
 pub use client::ClientNode;
 pub use rows::rows_compute;
