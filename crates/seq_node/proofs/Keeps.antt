@@ -20,16 +20,10 @@ use Rattle.node_rules.specs.Rules.{learn}
 use Rattle.seq_node.specs.States.{SlotAttempt, SequencerState, only_acceptors, acceptor_at, reaching, with_attempt, with_idle}
 use Rattle.seq_node.specs.Learning.{wish_granted, attempt_over, on_learned}
 use Rattle.seq_node.specs.Restart.{fit, reset_of}
-use Rattle.seq_node.specs.Sound.{IsAcceptor, AreAcceptors, AreWishes, IsOwn, IsAttempt, MayBeAttempt, IsSequencer}
+use Rattle.seq_node.specs.Sound.{IsAcceptor, AreAcceptors, AreWishes, IsOwn, IsAttempt, MayBeAttempt, IsOrderly}
+use Rattle.seq_node.specs.UnderWay.{IsKept}
 use Rattle.seq_node.proofs.Lists.{by_test, all_append, all_push, all_replicate, all_set, all_or}
 use Rattle.seq_node.proofs.Limits.{valid_node, slots_known}
-
--- the node is a sequencer still, what the turn stores and sends is valid, and a restart would leave what the stored items leave
-pub record IsKept (n : Node SequencerState) (t : Turn SequencerState) : Type 0 where
-  pub sound : IsSequencer t.state
-  pub stored : fold fit (reset_of n) t.stable ≡ reset_of t.state
-  pub stable : AllByRecursion IsValidItem t.stable
-  pub sends : AllByRecursion IsValidMessage t.sends
 
 -- ---- ways to put rules together
 
@@ -53,7 +47,7 @@ all_sent : (from : NodeId) (what : What) (tos : List NodeId) → IsValidNode fro
 all_sent from what [] here said all = tt
 all_sent from what (to ∷ tos) here said all = (record { from = here; to = all.0; what = said }, all_sent from what tos here said all.1)
 
-named : (n : Node SequencerState) → IsSequencer n → IsValidNode n.base.me
+named : (n : Node SequencerState) → IsOrderly n → IsValidNode n.base.me
 named n is = valid_node n.base.cfg n.base.me is.base.cfg is.base.me
 
 pub kept_send : (n : Node SequencerState) (to : NodeId) (what : What) (t : Turn SequencerState) → IsValidNode to → IsValidWhat what → IsKept n t → IsKept n (send to what t)

@@ -1,8 +1,11 @@
 pub mod Lists
 pub mod Limits
-pub mod Values
+pub mod Proposals
 pub mod Ballots
 pub mod Keeps
-pub mod Attempts
+pub mod AttemptRules
 pub mod Tables
 pub mod Lives
+pub mod Starts
+pub mod UnderWays
+pub mod Fits

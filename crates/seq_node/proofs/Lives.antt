@@ -10,17 +10,17 @@ use Rattle.node_rules.specs.Lives.{Life, lived_on}
 use Rattle.seq_node.specs.States.{SequencerState}
 use Rattle.seq_node.specs.Steps.{sequencer_step}
 use Rattle.seq_node.specs.Restart.{fit, fresh_node, reset_of, restart_of}
-use Rattle.seq_node.specs.Sound.{IsSequencer}
+use Rattle.seq_node.specs.Sound.{IsOrderly}
 use Rattle.seq_node.specs.Laws.{sequencer_life, RestartIsTheItems, StepsAreValid}
-use Rattle.seq_node.proofs.Keeps.{IsKept}
+use Rattle.seq_node.specs.UnderWay.{IsKept}
 use Rattle.seq_node.proofs.Tables.{only_own, kept_step}
 
 -- what holds of a life so far
 record IsLife (cfg : Config) (me : NodeId) (life : Life SequencerState) : Type 0 where
-  sound : IsSequencer life.node
+  sound : IsOrderly life.node
   stored : restart_of cfg me life.stored ≡ reset_of life.node
 
-pub fresh_sound : (cfg : Config) (me : NodeId) → IsValidConfig cfg → IsNodeOf cfg me → IsSequencer (fresh_node cfg me)
+pub fresh_sound : (cfg : Config) (me : NodeId) → IsValidConfig cfg → IsNodeOf cfg me → IsOrderly (fresh_node cfg me)
 fresh_sound cfg me valid here = record {
   base = record { cfg = valid; me = here; entries = tt; few = omega arith; seen = omega arith; ticks = omega arith };
   own = only_own [] (record { each = tt; few = omega arith });

@@ -30,11 +30,12 @@ use Rattle.seq_node.specs.Learning.{on_learned}
 use Rattle.seq_node.specs.Rules.{tell, hear_learn, prepare_answered, hear_prepare, accept_answered, hear_accept, hear_report, with_wish, begin_if_free, take_command, fill, fill_lagging, idle_longer, patience, begin_when_idle, on_tick}
 use Rattle.seq_node.specs.Steps.{hear, react, ends_with_beginning, sequencer_step}
 use Rattle.seq_node.specs.Restart.{fit, reset_of}
-use Rattle.seq_node.specs.Sound.{IsAcceptor, AreAcceptors, AreReports, IsOwn, IsSequencer}
+use Rattle.seq_node.specs.Sound.{IsAcceptor, AreAcceptors, AreReports, IsOwn, IsOrderly}
 use Rattle.seq_node.proofs.Lists.{by_test, all_push, all_replicate, all_set, all_or, all_at}
 use Rattle.seq_node.proofs.Limits.{valid_asked, IsWanted, valid_wanted}
-use Rattle.seq_node.proofs.Keeps.{IsKept, kept_if, kept_option, kept_fold, kept_send, kept_seen, kept_tick, kept_own, kept_item, length-reaching, acceptors_with, acceptor_valid, attempt_longer, kept_learn}
-use Rattle.seq_node.proofs.Attempts.{kept_hear_promise, kept_hear_acceptance, kept_begin}
+use Rattle.seq_node.specs.UnderWay.{IsKept}
+use Rattle.seq_node.proofs.Keeps.{kept_if, kept_option, kept_fold, kept_send, kept_seen, kept_tick, kept_own, kept_item, length-reaching, acceptors_with, acceptor_valid, attempt_longer, kept_learn}
+use Rattle.seq_node.proofs.AttemptRules.{kept_hear_promise, kept_hear_acceptance, kept_begin}
 
 -- ---- Learn
 
@@ -72,11 +73,11 @@ promised_report : (promised : Option ℕ) (own : AcceptorState Entry) (report : 
 promised_report (Some p) own report e = absurd (cc)
 promised_report None own report e = cc
 
-valid_after_prepare : (promised : Option ℕ) (ballot : ℕ) (own : AcceptorState Entry) → IsAcceptor own → IsAcceptor (after_prepare_answer (prepare_answer_unless promised own) ballot own)
+pub valid_after_prepare : (promised : Option ℕ) (ballot : ℕ) (own : AcceptorState Entry) → IsAcceptor own → IsAcceptor (after_prepare_answer (prepare_answer_unless promised own) ballot own)
 valid_after_prepare (Some p) ballot own valid = valid
 valid_after_prepare None ballot own valid = valid
 
-valid_after_accept : (promised : Option ℕ) (ballot : ℕ) (entry : Entry) (own : AcceptorState Entry) → IsBallot ballot → IsValidEntry entry → IsAcceptor own
+pub valid_after_accept : (promised : Option ℕ) (ballot : ℕ) (entry : Entry) (own : AcceptorState Entry) → IsBallot ballot → IsValidEntry entry → IsAcceptor own
     → IsAcceptor (after_accept_answer (accept_answer_unless promised) ballot entry own)
 valid_after_accept (Some p) ballot entry own small good valid = valid
 valid_after_accept None ballot entry own small good valid = (small, good)
@@ -139,7 +140,7 @@ kept_report n (nodes.Consumer number) len t place is = kept_own n (own_of t) t i
 
 -- ---- Command
 
-kept_wish : (n : Node SequencerState) (command : Command) (t : Turn SequencerState) → IsValidCommand command → IsKept n t → IsKept n (put_own (with_wish command (own_of t)) t)
+pub kept_wish : (n : Node SequencerState) (command : Command) (t : Turn SequencerState) → IsValidCommand command → IsKept n t → IsKept n (put_own (with_wish command (own_of t)) t)
 kept_wish n command t good is =
     by_test (λ (s : SequencerState). IsKept n (put_own s t)) (nat_lt (length (own_of t).wishes) 16) (record (own_of t) { wishes = (own_of t).wishes ++ command ∷ [] }) (own_of t)
     (λ room.
@@ -188,15 +189,15 @@ asked_among c true true x y to valid e = let same : nodes.Seq (x % c.seqs) ≡ t
 asked_among c true false x y to valid e = absurd (cc)
 asked_among c false second x y to valid e = let same : nodes.Seq (y % c.seqs) ≡ to = cc in subst IsValidNode same (valid_asked c y valid)
 
-valid_asked_by : (t : Turn SequencerState) (to : NodeId) → IsSequencer t.state → asked_by t.state.base ≡ Some to → IsValidNode to
+valid_asked_by : (t : Turn SequencerState) (to : NodeId) → IsOrderly t.state → asked_by t.state.base ≡ Some to → IsValidNode to
 valid_asked_by t to is e =
     asked_among (cfg_of t) (is_sequencer (me_of t)) (nat_lt 1 (cfg_of t).seqs) (number_of (me_of t) + 1) t.state.base.ticks to is.base.cfg e
 
-kept_ticked : (n : Node SequencerState) (t : Turn SequencerState) → IsKept n t → IsKept n (tick t)
+pub kept_ticked : (n : Node SequencerState) (t : Turn SequencerState) → IsKept n t → IsKept n (tick t)
 kept_ticked n t is =
     kept_tick n _ (kept_option n (λ to. ask to t) (asked_by t.state.base) t (λ to e. kept_ask n to t (valid_asked_by t to is.sound e) is) is)
 
-kept_fill_lagging : (n : Node SequencerState) (t : Turn SequencerState) → IsKept n t → IsKept n (fill_lagging t)
+pub kept_fill_lagging : (n : Node SequencerState) (t : Turn SequencerState) → IsKept n t → IsKept n (fill_lagging t)
 kept_fill_lagging n t is =
     kept_if n (has_uncovered (agreed t) (own_of t)) _ t
     (λ _. kept_fold n fill IsWanted (lagging_rows (agreed t) (own_of t)) t
@@ -204,7 +205,7 @@ kept_fill_lagging n t is =
     (valid_wanted t.state.base _ is.sound.base) is)
     (λ _. is)
 
-kept_idle_longer : (n : Node SequencerState) (t : Turn SequencerState) → IsKept n t → IsKept n (idle_longer t)
+pub kept_idle_longer : (n : Node SequencerState) (t : Turn SequencerState) → IsKept n t → IsKept n (idle_longer t)
 kept_idle_longer n t is =
     kept_own n (with_idle (min ((own_of t).idle + 1) 255) (own_of t)) t
     (record { acceptors = is.sound.own.acceptors; primaries = is.sound.own.primaries; backups = is.sound.own.backups; wishes = is.sound.own.wishes; idle = omega arith })
@@ -249,7 +250,7 @@ only_own acceptors are =
     record { acceptors = are; primaries = no_reports; backups = no_reports; wishes = record { each = tt; few = omega arith }; idle = omega arith }
 
 -- a restart leaves a sequencer
-pub reset_sound : (n : Node SequencerState) → IsSequencer n → IsSequencer (reset_of n)
+pub reset_sound : (n : Node SequencerState) → IsOrderly n → IsOrderly (reset_of n)
 reset_sound n is = record {
   base = record { cfg = is.base.cfg; me = is.base.me; entries = is.base.entries; few = is.base.few; seen = omega arith; ticks = omega arith };
   own = only_own n.own.acceptors is.own.acceptors;
@@ -257,10 +258,10 @@ reset_sound n is = record {
 }
 
 -- the turn of a step begins at the node
-kept_started : (n : Node SequencerState) → IsSequencer n → IsKept n (started n)
+pub kept_started : (n : Node SequencerState) → IsOrderly n → IsKept n (started n)
 kept_started n is = record { sound = is; stored = refl; stable = tt; sends = tt }
 
-kept_react : (n : Node SequencerState) (event : Event) → IsSequencer n → IsValidEvent event → IsKept n (react event (started n))
+pub kept_react : (n : Node SequencerState) (event : Event) → IsOrderly n → IsValidEvent event → IsKept n (react event (started n))
 kept_react n (events.Deliver message) is valid =
     kept_if n (is_heeded n.base.cfg n.base.me message) _ (started n) (λ _. kept_hear n message.from message.what (started n) valid.from valid.what (kept_started n is)) (λ _. kept_started n is)
 kept_react n (events.Command command) is valid = kept_command n command (started n) valid (kept_started n is)
@@ -269,7 +270,7 @@ kept_react n events.Restart is valid = record { sound = reset_sound n is; stored
 kept_react n (events.Submit by body) is valid = kept_started n is
 
 -- so each step leaves a sequencer, and what it stores and sends is valid
-pub kept_step : (n : Node SequencerState) (event : Event) → IsSequencer n → IsValidEvent event → IsKept n (sequencer_step n event)
+pub kept_step : (n : Node SequencerState) (event : Event) → IsOrderly n → IsValidEvent event → IsKept n (sequencer_step n event)
 kept_step n event is valid =
     let reacted = kept_react n event is valid in
     kept_if n ((number_of (me_of (react event (started n))) == 0) && ends_with_beginning event) _ _ (λ _. kept_begin_if_free n _ reacted) (λ _. reacted)

@@ -90,6 +90,10 @@ abbrev pub alone : ℕ → ℕ → Turn SequencerState → Turn SequencerState
 alone slot ballot t =
     if (cfg_of t).seqs == 1 then hear_acceptance 0 slot ballot (hear_promise 0 slot ballot None t) else t
 
+-- a ballot, where it is below 2^31
+abbrev pub ballot_below : ℕ → Option ℕ
+ballot_below ballot = if nat_lt ballot (2 ^ 31) then Some ballot else None
+
 -- where no ballot below 2^31 is left nothing begins
 abbrev pub begin_at : ℕ → ℕ → Entry → Turn SequencerState → Turn SequencerState
 begin_at slot ballot value t =

@@ -6,5 +6,6 @@ pub mod Rules
 pub mod Steps
 pub mod Restart
 pub mod Sound
+pub mod UnderWay
 pub mod Laws
 pub mod Rows

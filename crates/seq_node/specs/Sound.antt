@@ -1,9 +1,9 @@
 -- What holds of every sequencer, whatever valid events it took.
-use Rattle.std.specs.Prelude.{◌≡◌, ℕ, ◌<◌, ◌≤◌, List, length, Option, Some, None}
+use Rattle.std.specs.Prelude.{◌≡◌, ℕ, ◌<◌, ◌≤◌, List, length, Option, Some, None, IsTrue}
 use Rattle.std.specs.List.{AllByRecursion}
 use Rattle.majority.specs.Acceptors.{AcceptorState}
 use Rattle.record_codec.specs.Entries.{IsValidEntry}
-use Rattle.msg_wire.specs.Nodes.{number_of}
+use Rattle.msg_wire.specs.Nodes.{number_of, is_sequencer}
 use Rattle.msg_wire.specs.Valid.{IsBallot, IsPlace, IsValidReport, IsValidCommand}
 use Rattle.node_rules.specs.Names.{Entry, Command}
 use Rattle.node_rules.specs.Nodes.{Node}
@@ -58,7 +58,13 @@ abbrev pub MayBeAttempt : ℕ → ℕ → ℕ → ℕ → Option SlotAttempt →
 MayBeAttempt replica seqs next slots None = Unit {0}
 MayBeAttempt replica seqs next slots (Some a) = IsAttempt replica seqs next slots a
 
-pub record IsSequencer (n : Node SequencerState) : Type 0 where
+-- what holds of any node that takes a sequencer's steps
+pub record IsOrderly (n : Node SequencerState) : Type 0 where
   pub base : IsBase n.base
   pub own : IsOwn n.own
   pub attempt : MayBeAttempt (number_of n.base.me) n.base.cfg.seqs (length n.base.known) (length n.own.acceptors) n.own.attempt
+
+-- and of a sequencer
+pub record IsSequencer (n : Node SequencerState) : Type 0 where
+  pub orderly : IsOrderly n
+  pub kind : IsTrue (is_sequencer n.base.me)

@@ -2,26 +2,20 @@
 use Rattle.std.specs.Prelude.{ℕ, ◌+◌, ◌-◌, ◌==◌, ◌&&◌, min, max, if◌then◌else◌, List, [], ◌++◌, map, length, replicate, get_or, slice_index, slice_set, Option, Some, None}
 use Rattle.std.specs.List.{range_with_len}
 use Rattle.majority.specs.Acceptors.{AcceptorState, fresh_acceptor}
-use Rattle.majority.specs.Proposers.{Attempt}
-use Rattle.node_rules.specs.Names.{NodeId, Entry, Command}
+use Rattle.node_rules.specs.Names.{NodeId, Entry}
 use Rattle.node_rules.specs.Names.nodes
 use Rattle.node_rules.specs.Names.sides
+use Rattle.seq_node.specs.declared.state.SlotAttempt.{SlotAttempt as SlotAttemptOf}
+use Rattle.seq_node.specs.declared.state.SequencerState.{SequencerState as SequencerStateOf}
 
 -- an attempt at a slot, and the entry that it made of the first wish, if it did
-pub record SlotAttempt : Type 0 where
-  pub slot : ℕ
-  pub attempt : Attempt Entry
-  pub wished : Option Entry
+abbrev pub SlotAttempt : Type 0
+SlotAttempt = SlotAttemptOf
 
 -- the acceptors of the slots from 0 on, up to the last that has one; the greatest length that each shard's primary and each
 -- shard's backup reported; the wishes, the oldest first; the attempt; the ticks since something happened
-pub record SequencerState : Type 0 where
-  pub acceptors : List (AcceptorState Entry)
-  pub primaries : List ℕ
-  pub backups : List ℕ
-  pub wishes : List Command
-  pub attempt : Option SlotAttempt
-  pub idle : ℕ
+abbrev pub SequencerState : Type 0
+SequencerState = SequencerStateOf
 
 -- with these acceptors, and nothing else
 abbrev pub only_acceptors : List (AcceptorState Entry) → SequencerState

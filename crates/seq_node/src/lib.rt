@@ -1,11 +1,29 @@
-//! A sequencer, as definitions: its state, what it proposes, and its step table.
+//! A sequencer: its state, its step table, and the node that is proved to make these steps.
 //!
-//! `specs/Steps.antt` has `sequencer_step`, which gives the turn of each event: what is stored, sent and shown, and
-//! the state that follows. `specs/Restart.antt` says what a vault's items alone give.
-//! The laws of every life of valid events stand in [`laws`].
+//! - [`SeqNode`]: `new`, `restart`, `step` and a reader. Each step is the turn that `sequencer_step` of
+//!   `specs/Steps.antt` gives.
+//! - [`laws`]: what holds of every life of valid events.
 #![tactic(auto)]
 
+mod acceptors;
+mod attempts;
+mod beginning;
 pub mod laws;
+mod learning;
+mod node;
+mod restart;
 mod rows;
+mod rules;
+mod state;
+mod steps;
+#[cfg(test)]
+mod tests;
+mod ticks;
+mod values;
+mod wishes;
 
+pub use acceptors::Acceptors;
+pub use node::SeqNode;
 pub use rows::rows_compute;
+pub use state::{SequencerState, SlotAttempt};
+pub use wishes::Wishes;

@@ -13,7 +13,7 @@ use Rattle.node_rules.specs.Nodes.{Base, Node, agreed_by}
 use Rattle.node_rules.specs.Sound.{IsBase}
 use Rattle.seq_node.specs.States.{SequencerState, acceptor_at}
 use Rattle.seq_node.specs.Values.{entry_of, wished_value, renewal_is_due, renewal, cut_is_due, cut, is_touched, filler, value_for}
-use Rattle.seq_node.specs.Sound.{MayBeValid, IsSequencer}
+use Rattle.seq_node.specs.Sound.{MayBeValid, IsOrderly}
 use Rattle.seq_node.proofs.Limits.{agreed_sound, number_limit}
 
 may_if : (b : Bool) (entry : Entry) → IsValidEntry entry → MayBeValid (if b then Some entry else None)
@@ -32,7 +32,7 @@ valid_first : (window : ℕ) (wishes : List Command) → window ≤ 1000000 → 
 valid_first window [] number valid = tt
 valid_first window (command ∷ wishes) number valid = valid_entry_of window command number valid.0
 
-valid_wish : (n : Node SequencerState) → IsSequencer n → MayBeValid (wished_value (agreed_by n.base) n.own)
+valid_wish : (n : Node SequencerState) → IsOrderly n → MayBeValid (wished_value (agreed_by n.base) n.own)
 valid_wish n is = valid_first (agreed_by n.base).current.number n.own.wishes (number_limit n.base is.base) is.own.wishes.each
 
 valid_renewal : (b : Base) (s : SequencerState) → IsBase b → MayBeValid (renewal (agreed_by b) s)
@@ -49,7 +49,7 @@ valid_cut b s is =
 valid_filler : (slot : ℕ) (s : SequencerState) → MayBeValid (filler slot s)
 valid_filler slot s = may_if (is_touched (acceptor_at s slot)) entries.Nothing tt
 
-pub valid_value : (n : Node SequencerState) → IsSequencer n → MayBeValid (value_for (agreed_by n.base) n.own)
+pub valid_value : (n : Node SequencerState) → IsOrderly n → MayBeValid (value_for (agreed_by n.base) n.own)
 valid_value n is =
     may_or (wished_value (agreed_by n.base) n.own) _ (valid_wish n is)
     (may_or (renewal (agreed_by n.base) n.own) _ (valid_renewal n.base n.own is.base)

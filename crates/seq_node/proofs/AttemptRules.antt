@@ -26,9 +26,10 @@ use Rattle.seq_node.specs.Restart.{fit, reset_of}
 use Rattle.seq_node.specs.Sound.{MayBeValid, IsAcceptor, AreAcceptors, IsOwn, IsAttempt}
 use Rattle.seq_node.proofs.Lists.{by_test, set_back}
 use Rattle.seq_node.proofs.Limits.{seqs_limit, valid_other_sequencers, valid_other_nodes}
-use Rattle.seq_node.proofs.Values.{valid_value}
+use Rattle.seq_node.proofs.Proposals.{valid_value}
 use Rattle.seq_node.proofs.Ballots.{promises, accepts, open_ballot, sent, valid_greater, valid_reported}
-use Rattle.seq_node.proofs.Keeps.{IsKept, kept_if, kept_send_all, HasAttempt, left_with, attempt_at, kept_own, kept_item, length-reaching, acceptors_with, acceptor_valid, kept_learn}
+use Rattle.seq_node.specs.UnderWay.{IsKept}
+use Rattle.seq_node.proofs.Keeps.{kept_if, kept_send_all, HasAttempt, left_with, attempt_at, kept_own, kept_item, length-reaching, acceptors_with, acceptor_valid, kept_learn}
 
 -- ---- deciding
 
@@ -248,7 +249,7 @@ started_above : (ballot : ℕ) (value : Entry) (own : AcceptorState Entry) → (
 started_above ballot value own above none_above =
     promises ballot own none_above ∙ sym (ap (λ (b : Bool). if b then with_vote ballot value own else with_promise ballot own) above)
 
-kept_first : (n : Node SequencerState) (ballot : ℕ) (value : Entry) (t : Turn SequencerState) → count_known t < 1000000 → IsBallot ballot → IsValidEntry value
+pub kept_first : (n : Node SequencerState) (ballot : ℕ) (value : Entry) (t : Turn SequencerState) → count_known t < 1000000 → IsBallot ballot → IsValidEntry value
     → greater_promise (acceptor_at (own_of t) (count_known t)).promised ballot ≡ None → IsKept n t
     → IsKept n (first_sends (count_known t) ballot value (put_own (attempt_stands (count_known t) ballot value t) t))
 kept_first n ballot value t low small valid none_above is =

@@ -1,0 +1,183 @@
+//! A sequencer's step: each event with its rules, and the beginning that ends the step of sequencer 0.
+
+ghost use Rattle.std.specs.Prelude.{◌≡◌, ◌<◌, ◌≤◌, ◌==◌, ◌&&◌, IfOk, OnOk, IsTrue};
+ghost use Rattle.record_codec.specs.Entries.{IsValidEntry};
+ghost use Rattle.msg_wire.specs.Nodes.{number_of};
+ghost use Rattle.msg_wire.specs.Heeded.{is_heeded};
+ghost use Rattle.msg_wire.specs.Valid.{IsValidMessage, IsValidEvent};
+ghost use Rattle.msg_wire.specs.Steps.{IsValidStep};
+ghost use Rattle.node_rules.specs.Turns.{turn_of, empty_step};
+ghost use Rattle.node_rules.specs.Rules.{heed, learn_next, decided};
+ghost use Rattle.seq_node.specs.Learning.{on_learned};
+ghost use Rattle.seq_node.specs.Steps.{hear, react, ends_with_beginning, finish, sequencer_step};
+ghost use Rattle.seq_node.specs.Sound.{IsSequencer};
+ghost use Rattle.seq_node.specs.UnderWay.{IsUnderWay};
+
+use crate::attempts::{hear_acceptance, hear_promise};
+use crate::beginning::begin_if_free;
+use crate::learning::learn;
+use crate::restart::reset;
+use crate::rules::{hear_accept, hear_learn, hear_prepare, hear_report};
+use crate::state::Sequencer;
+use crate::ticks::{on_tick, take_command};
+use msg_wire::{Event, Message, Step, What};
+use node_rules::{empty_step, number_of};
+use quota_table::{Entry, OutOfMemory};
+use spec_base::NodeId;
+use std::alloc::Global;
+
+/// The step of an event: its own rule, and then the end of a step.
+pub fn take(seq: &mut Sequencer, alloc: Global, event: &Event) -> Result<Step, OutOfMemory>
+    requires sound { IsSequencer seq.old }
+    requires valid { IsValidEvent event.now }
+    ensures turn { IfOk result (λ out. turn_of seq.new out ≡ sequencer_step seq.old event.now) }
+    ensures valid { IfOk result (λ out. IsValidStep out) }
+    ensures sound { OnOk result (IsSequencer seq.new) }
+{
+    let mut out = empty_step(alloc);
+    react(seq, event, &mut out)?;
+    finish(seq, event, &mut out)?;
+    Ok(out)
+}
+
+/// The event's own rule, with which a step begins.
+fn react(seq: &mut Sequencer, event: &Event, out: &mut Step) -> Result<(), OutOfMemory>
+    requires sound { IsSequencer seq.old }
+    requires valid { IsValidEvent event.now }
+    requires begins { out.old ≡ empty_step }
+    ensures { OnOk result (turn_of seq.new out.new ≡ react event.now (turn_of seq.old out.old)) }
+{
+    match event {
+        Event::Deliver(message) => heed(seq, message, out),
+        Event::Command(command) => take_command(seq, command, out),
+        Event::Tick => on_tick(seq, out),
+        Event::Restart => {
+            reset(seq);
+            Ok(())
+        }
+        Event::Submit { .. } => Ok(()),
+    }
+}
+
+/// The end of a step: sequencer 0 begins where no attempt stands.
+fn finish(seq: &mut Sequencer, event: &Event, out: &mut Step) -> Result<(), OutOfMemory>
+    requires { IsUnderWay (turn_of seq.old out.old) }
+    ensures { OnOk result (turn_of seq.new out.new ≡ finish event.now (turn_of seq.old out.old)) }
+{
+    if ends_here(seq, event) {
+        begin_if_free(seq, out)
+    } else {
+        Ok(())
+    }
+}
+
+/// Whether the end of an event's step begins at this sequencer.
+fn ends_here(seq: &Sequencer, event: &Event) -> bool
+    ensures { result ≡ ((number_of seq.now.base.me == 0) && ends_with_beginning event.now) }
+{
+    number_of(seq.base.me()) == 0 && ends_with_beginning(event)
+}
+
+/// Whether the end of an event's step begins: not that of a restart, and not that of a command and a tick, which have
+/// begun by their own rules.
+fn ends_with_beginning(event: &Event) -> bool
+    ensures { result ≡ ends_with_beginning event.now }
+{
+    matches!(event, Event::Deliver(_) | Event::Submit { .. })
+}
+
+/// A message that comes. One that is not heeded does nothing by itself.
+fn heed(seq: &mut Sequencer, message: &Message, out: &mut Step) -> Result<(), OutOfMemory>
+    requires under_way { IsUnderWay (turn_of seq.old out.old) }
+    requires valid { IsValidMessage message.now }
+    ensures { OnOk result (turn_of seq.new out.new ≡ heed hear message.now (turn_of seq.old out.old)) }
+{
+    if seq.heeds(message) {
+        hear(seq, message, out)
+    } else {
+        Ok(())
+    }
+}
+
+/// A message that is heeded.
+fn hear(seq: &mut Sequencer, message: &Message, out: &mut Step) -> Result<(), OutOfMemory>
+    requires under_way { IsUnderWay (turn_of seq.old out.old) }
+    requires valid { IsValidMessage message.now }
+    requires heeded { IsTrue (is_heeded seq.old.base.cfg seq.old.base.me message.now) }
+    ensures { OnOk result (turn_of seq.new out.new ≡ hear message.now.from message.now.what (turn_of seq.old out.old)) }
+{
+    let from = message.from;
+    match &message.what {
+        What::Decided { slot, count, entry } => hear_decided(seq, from, *slot, *count, entry, out),
+        What::Learn { slot } => hear_learn(seq, from, *slot, out),
+        What::Report { len } => {
+            hear_report(seq, from, *len);
+            Ok(())
+        }
+        What::Prepare { slot, ballot } => hear_prepare(seq, from, *slot, *ballot, out),
+        What::Accept {
+            slot,
+            ballot,
+            entry,
+        } => hear_accept(seq, from, *slot, *ballot, entry, out),
+        What::Promise {
+            slot,
+            ballot,
+            accepted,
+        } => {
+            let report = copy_of(accepted)?;
+            hear_promise(seq, number_of(from), *slot, *ballot, report, out)
+        }
+        What::Accepted { slot, ballot } => {
+            hear_acceptance(seq, number_of(from), *slot, *ballot, out)
+        }
+        _ => Ok(()),
+    }
+}
+
+/// A copy of what a promise reports.
+fn copy_of(report: &Option<(u32, Entry)>) -> Result<Option<(u32, Entry)>, OutOfMemory>
+    ensures { IfOk result (λ copy. copy ≡ report.now) }
+{
+    match report {
+        Some((ballot, entry)) => Ok(Some((*ballot, entry.clone()?))),
+        None => Ok(None),
+    }
+}
+
+/// Decided: a sequencer tells the entry of a slot, and how many it knows.
+fn hear_decided(
+    seq: &mut Sequencer,
+    from: NodeId,
+    slot: u32,
+    count: u32,
+    entry: &Entry,
+    out: &mut Step,
+) -> Result<(), OutOfMemory>
+    requires slot { slot < 1000000 }
+    requires count { count ≤ 1000000 }
+    requires entry { IsValidEntry entry.now }
+    ensures { OnOk result (turn_of seq.new out.new ≡ decided on_learned from slot count entry.now (turn_of seq.old out.old)) }
+{
+    seq.base.see(count);
+    learn_next(seq, slot, entry, out)?;
+    seq.ask_on(from, out)
+}
+
+/// Learns the entry where its slot is the next.
+fn learn_next(
+    seq: &mut Sequencer,
+    slot: u32,
+    entry: &Entry,
+    out: &mut Step,
+) -> Result<(), OutOfMemory>
+    requires slot { slot < 1000000 }
+    requires entry { IsValidEntry entry.now }
+    ensures { OnOk result (turn_of seq.new out.new ≡ learn_next on_learned slot entry.now (turn_of seq.old out.old)) }
+{
+    if slot == seq.base.count() {
+        learn(seq, entry, out)
+    } else {
+        Ok(())
+    }
+}
