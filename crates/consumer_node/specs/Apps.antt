@@ -13,3 +13,7 @@ pub record Meaning (A : Type 0) : Type 0 where
 -- that of the application of any kind
 abbrev pub any_meaning : Meaning AnyApp
 any_meaning = record { fresh = any_fresh; next = any_next; output = any_output }
+
+-- that of an application, of its members
+abbrev pub meaning : {A : Type 0} → (AppKind → A) → (A → Record → A) → (A → Record → List ℕ) → Meaning A
+meaning fresh next output = record { fresh = fresh; next = next; output = output }

@@ -1,4 +1,4 @@
--- What is to hold of every life of a consumer, over any application: stated, and not proved yet.
+-- What holds of every life of a consumer, over any application.
 use Rattle.std.specs.Prelude.{◌≡◌, ◌≤◌, List, length}
 use Rattle.std.specs.List.{AllByRecursion}
 use Rattle.msg_wire.specs.Valid.{IsValidConfig, IsNodeOf, IsValidEvent}
@@ -6,7 +6,7 @@ use Rattle.msg_wire.specs.Steps.{IsValidStep}
 use Rattle.node_rules.specs.Names.{NodeId, Config, Record, Event}
 use Rattle.node_rules.specs.Turns.{step_of}
 use Rattle.node_rules.specs.Lives.{Life, life_of}
-use Rattle.consumer_node.specs.Apps.{Meaning}
+use Rattle.consumer_node.specs.Apps.{Meaning, any_meaning}
 use Rattle.consumer_node.specs.States.{ConsumerState}
 use Rattle.consumer_node.specs.Steps.{consumer_step}
 use Rattle.consumer_node.specs.Restart.{fresh_node, reset_of, restart_of}
@@ -29,3 +29,9 @@ abbrev pub StepsAreValid : {A : Type 0} → Meaning A → Type 0
 StepsAreValid app =
     (cfg : Config) (me : NodeId) (events : List Event) (event : Event) → OutputsFit app → IsValidConfig cfg → IsNodeOf cfg me → AllByRecursion IsValidEvent events → IsValidEvent event →
     IsValidStep (step_of (consumer_step app (consumer_life app cfg me events).node event))
+
+-- so of the application of any kind, after whatever records
+abbrev pub AnyStepsAreValid : Type 0
+AnyStepsAreValid =
+    (cfg : Config) (me : NodeId) (events : List Event) (event : Event) → IsValidConfig cfg → IsNodeOf cfg me → AllByRecursion IsValidEvent events → IsValidEvent event →
+    IsValidStep (step_of (consumer_step any_meaning (consumer_life any_meaning cfg me events).node event))

@@ -1,5 +1,5 @@
 -- What a consumer has: the records that it holds, how many it confirmed, and what the application made of them.
-use Rattle.std.specs.Prelude.{ℕ, ◌+◌, List, [], length}
+use Rattle.std.specs.Prelude.{ℕ, ◌+◌, ◌-◌, List, [], length, take}
 use Rattle.app_law.specs.Folds.{fold_of}
 use Rattle.spec_delivery.specs.Lanes.{LaneState}
 use Rattle.spec_delivery.specs.Buffers.{fresh_buffer}
@@ -33,6 +33,10 @@ with_lanes lanes s = record s { lanes = lanes }
 
 abbrev pub with_pending : {A : Type 0} → List Record → ConsumerState A → ConsumerState A
 with_pending pending s = record s { pending = pending }
+
+-- the records that are applied from a position on are taken back
+abbrev pub cut_off : {A : Type 0} → ℕ → ConsumerState A → ConsumerState A
+cut_off first s = with_pending (take (first - s.confirmed) s.pending) s
 
 -- how many positions are applied in a turn
 abbrev pub applied : {A : Type 0} → Turn (ConsumerState A) → ℕ

@@ -1,10 +1,20 @@
-//! A consumer, as definitions: its state and its step table, over the members of any application.
+//! A consumer: it holds what is delivered, applies records in the log's order before they are confirmed, takes them back
+//! where a removal moves them, and lets output go once a record is confirmed.
 //!
-//! `specs/Steps.antt` has `consumer_step`, which gives the turn of each event: what is stored, sent and shown, and the
-//! state that follows. `specs/Restart.antt` says what a vault's items alone give.
-//! The state has no undo tokens: the state of the application before a position is the fold of the records below it.
+//! [`ConsumerNode`] takes the steps of `specs/Steps.antt`, exactly, over any application. `specs/Restart.antt` says what
+//! a vault's items alone give. The laws of a consumer's life stand in [`laws`].
 #![tactic(auto)]
 
+mod consumer;
+pub mod laws;
+mod own;
+mod restart;
 mod rows;
+mod rules;
+mod speculation;
+mod steps;
+#[cfg(test)]
+mod tests;
 
+pub use consumer::ConsumerNode;
 pub use rows::rows_compute;

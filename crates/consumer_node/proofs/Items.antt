@@ -1,0 +1,82 @@
+-- What the items of a vault give is a consumer, whatever valid items they are.
+use Rattle.std.proofs.Common.{◌≡◌, true, List, [], ◌∷◌, length, drop, Option, Some, None, refl, sym, ap, subst, arith}
+use Rattle.std.specs.List.{fold}
+use Rattle.std.specs.Option.{option_map_or}
+use Rattle.record_codec.specs.Entries.{IsValidEntry}
+use Rattle.fix_ante.specs.declared.spots.Owner.{Owner}
+use Rattle.cut_core.specs.Agreements.{Agreement, agreement_from}
+use Rattle.cut_core.specs.Agreeing.{IsBelowFirst}
+use Rattle.cut_core.specs.Effects.{effect_of}
+use Rattle.cut_core.specs.Map.{located}
+use Rattle.cut_core.proofs.AgreeingLemmas.{applied_all-push}
+use Rattle.msg_wire.specs.Valid.{IsValidConfig, IsNodeOf, IsValidItem, AreValidItems}
+use Rattle.node_rules.specs.Names.{NodeId, Config, Entry, Record, Item}
+use Rattle.node_rules.specs.Names.items
+use Rattle.node_rules.specs.Nodes.{Node, first_window, agreed_by, has_slot, knowing, with_own}
+use Rattle.node_rules.specs.Sound.{IsBase}
+use Rattle.node_rules.proofs.SoundTurns.{on_test}
+use Rattle.consumer_node.specs.Apps.{Meaning}
+use Rattle.consumer_node.specs.States.{ConsumerState}
+use Rattle.consumer_node.specs.Speculation.{with_confirmed}
+use Rattle.consumer_node.specs.Restart.{fresh_node, fit, closed_by, restart_of}
+use Rattle.consumer_node.specs.Sound.{IsConsumer}
+use Rattle.consumer_node.proofs.Owners.{agreement_by}
+use Rattle.consumer_node.proofs.Owned.{IsLearned, Any, own_open, own_fresh, confirm_learned}
+use Rattle.consumer_node.proofs.Learned.{own_learned, own_uncut, own_closed}
+use Rattle.consumer_node.proofs.Turns.{base_knowing}
+
+-- before the gone shards are closed
+pub record IsFitted {A : Type 0} (n : Node (ConsumerState A)) : Type 0 where
+  pub base : IsBase n.base
+  pub own : IsLearned Any (agreed_by n.base) n.own
+  pub none : n.own.pending ≡ []
+
+-- ---- one item more
+
+fitted_known : {A : Type 0} (n : Node (ConsumerState A)) (entry : Entry) → IsValidEntry entry → has_slot n.base ≡ true → IsFitted n → IsFitted (record n { base = knowing entry n.base })
+fitted_known n entry valid slot is =
+    let first = agreement_from (first_window n.base.cfg) in
+    let learned = own_learned (agreed_by n.base) entry n.own (agreement_by n.base is.base) is.own in
+    let empty : length n.own.pending ≡ 0 = ap length is.none in
+    record {
+      base = base_knowing entry n.base valid slot is.base;
+      own =
+          own_uncut (IsBelowFirst (effect_of (agreed_by n.base) entry)) (agreed_by (knowing entry n.base)) n.own (λ i below. absurd (omega (arith, below, empty)))
+          (subst (λ (a : Agreement). IsLearned (IsBelowFirst (effect_of (agreed_by n.base) entry)) a n.own) (sym (applied_all-push first n.base.known entry)) learned);
+      none = is.none;
+    }
+
+fitted_confirmed : {A : Type 0} (app : Meaning A) (n : Node (ConsumerState A)) (rec : Record) (found : Option Owner) → located (agreed_by n.base) n.own.confirmed ≡ found → IsFitted n
+    → IsFitted (option_map_or (λ o. with_own (with_confirmed app rec o n.own) n) found n)
+fitted_confirmed app n rec None e is = is
+fitted_confirmed app n rec (Some o) e is = record {
+  base = is.base;
+  own = confirm_learned app (agreed_by n.base) n.own rec o (agreement_by n.base is.base) e is.own;
+  none = ap (drop 1) is.none;
+}
+
+pub fitted_one : {A : Type 0} (app : Meaning A) (n : Node (ConsumerState A)) (item : Item) → IsValidItem item → IsFitted n → IsFitted (fit app n item)
+fitted_one app n (items.Known entry) valid is = on_test IsFitted (has_slot n.base) _ n (λ slot. fitted_known n entry valid slot is) (λ _. is)
+fitted_one app n (items.Confirmed rec output) valid is = fitted_confirmed app n rec (located (agreed_by n.base) n.own.confirmed) refl is
+fitted_one app n _ valid is = is
+
+fitted_all : {A : Type 0} (app : Meaning A) (stored : List Item) (n : Node (ConsumerState A)) → AreValidItems stored → IsFitted n → IsFitted (fold (fit app) n stored)
+fitted_all app [] n valid is = is
+fitted_all app (item ∷ stored) n valid is = fitted_all app stored (fit app n item) valid.1 (fitted_one app n item valid.0 is)
+
+-- ---- all of them, and the gone shards are closed
+
+pub fresh_sound : {A : Type 0} (app : Meaning A) (cfg : Config) (me : NodeId) → IsValidConfig cfg → IsNodeOf cfg me → IsConsumer (fresh_node app cfg me)
+fresh_sound app cfg me valid here = record {
+  base = record { cfg = valid; me = here; entries = tt; few = omega arith; seen = omega arith; ticks = omega arith };
+  own = own_fresh app cfg.app (first_window cfg);
+}
+
+pub closed_sound : {A : Type 0} (n : Node (ConsumerState A)) → IsFitted n → IsConsumer (closed_by n)
+closed_sound n is = record { base = is.base; own = own_closed (agreed_by n.base) n.own (agreement_by n.base is.base) is.own }
+
+pub restart_sound : {A : Type 0} (app : Meaning A) (cfg : Config) (me : NodeId) (stored : List Item) → IsValidConfig cfg → IsNodeOf cfg me → AreValidItems stored → IsConsumer (restart_of app cfg me stored)
+restart_sound app cfg me stored valid here each =
+    let fresh = fresh_sound app cfg me valid here in
+    let fitted : IsFitted (fresh_node app cfg me) = record { base = fresh.base; own = own_open _ _ fresh.own; none = refl } in
+    closed_sound (fold (fit app) (fresh_node app cfg me) stored) (fitted_all app stored (fresh_node app cfg me) each fitted)

@@ -1,0 +1,119 @@
+-- What holds of a consumer's own part at a learned entry: what a removal moves is undone, and the shards that are gone are closed.
+use Rattle.std.proofs.Common.{◌≡◌, ℕ, zero, suc, ◌+◌, ◌<◌, ◌==◌, false, List, [], ◌∷◌, length, length-append, take, Option, Some, None, refl, sym, ap, ◌∙◌, inl, inr, arith}
+use Rattle.std.specs.List.{slice_get, fold}
+use Rattle.std.specs.Option.{option_and_then}
+use Rattle.std.proofs.lemmas.Bool.{cases_Bool, cond-false, or_parts}
+use Rattle.std.proofs.lemmas.List.{take-append-le, length-take}
+use Rattle.std.proofs.lemmas.Option.{slice_get_within}
+use Rattle.quota_table.specs.declared.entry.Entry.{Entry}
+use Rattle.cut_core.specs.declared.gone.Gone.{Gone}
+use Rattle.cut_core.specs.Agreements.{Agreement, count_of}
+use Rattle.cut_core.specs.Effects.{effect_of}
+use Rattle.cut_core.specs.Fold.{applied}
+use Rattle.cut_core.specs.Map.{map_of, mapped, gone_end, end_among}
+use Rattle.cut_core.specs.Agreeing.{IsBelowFirst}
+use Rattle.cut_core.proofs.AgreeingLemmas.{covered-applied, mapped-applied}
+use Rattle.cut_core.proofs.Ends.{is_among}
+use Rattle.cut_core.proofs.Finding.{dense-below}
+use Rattle.cut_core.proofs.GoneEnds.{gone_end-ended, gone_end-applied_all}
+use Rattle.cut_core.proofs.Consistent.{IsConsistent-sound}
+use Rattle.consumer_node.specs.States.{ConsumerState, with_pending}
+use Rattle.consumer_node.specs.Speculation.{held_of}
+use Rattle.consumer_node.specs.Rules.{close, close_gone}
+use Rattle.consumer_node.specs.Sound.{IsOwn}
+use Rattle.consumer_node.proofs.Buffers.{length_closed, all_closed, floor_closed, end_other, end_closed, held_below}
+use Rattle.consumer_node.proofs.Owners.{IsAgreement}
+use Rattle.consumer_node.proofs.Applied.{applied_at}
+use Rattle.consumer_node.proofs.Owned.{IsLearned, Any, applied_still}
+
+-- ---- one entry more is known
+
+end_before : (a : Agreement) (entry : Entry) (shard : ℕ) (end : Option ℕ) → gone_end a shard ≡ end → gone_end (applied a entry) shard ≡ None → end ≡ None
+end_before a entry shard None e none = refl
+end_before a entry shard (Some end) e none =
+    let stays : gone_end (applied a entry) shard ≡ Some end = gone_end-applied_all a (entry ∷ []) shard end e in
+    absurd (cc)
+
+pub own_learned : {A : Type 0} (a : Agreement) (entry : Entry) (s : ConsumerState A) → IsAgreement a → IsLearned Any a s → IsLearned (IsBelowFirst (effect_of a entry)) (applied a entry) s
+own_learned a entry s agreed is =
+    let more = covered-applied a entry in
+    record {
+      shards = is.shards;
+      lanes = is.lanes;
+      confirmed = omega (arith, is.confirmed, ap length more.1, length-append a.covered more.0);
+      floors = λ shard small.
+          is.floors shard small
+          ∙ ap (count_of shard) (sym (take-append-le s.confirmed a.covered more.0 is.confirmed) ∙ ap (take s.confirmed) (sym more.1));
+      ends = λ shard small none. is.ends shard small (end_before a entry shard (gone_end a shard) refl none);
+      applied = λ i below stays.
+          let held = is.applied i below tt in
+          let at = applied_at a s i below held in
+          let same : mapped (applied a entry) (s.confirmed + i) ≡ mapped a (s.confirmed + i) =
+          mapped-applied a entry (s.confirmed + i) agreed.sound (slice_get_within (map_of a) (s.confirmed + i) at.owner at.position) stays in
+          ap (option_and_then (held_of s.lanes)) same ∙ held;
+    }
+
+-- ---- what is undone
+
+pub take_get : {X : Type 0} (n : ℕ) (xs : List X) (i : ℕ) → i < n → slice_get (take n xs) i ≡ slice_get xs i
+take_get zero xs i below = absurd (omega (arith, below))
+take_get (suc n) [] i below = refl
+take_get (suc n) (x ∷ xs) zero below = refl
+take_get (suc n) (x ∷ xs) (suc i) below = take_get n xs i (omega (arith, below))
+
+-- only applied records at positions that stay are left
+pub own_cut : {A : Type 0} (P : ℕ → Type 0) (a : Agreement) (s : ConsumerState A) (n : ℕ) → ((i : ℕ) → i < n → P (s.confirmed + i)) → IsLearned P a s → IsLearned Any a (with_pending (take n s.pending) s)
+own_cut P a s n stays is = record {
+  shards = is.shards;
+  lanes = is.lanes;
+  confirmed = is.confirmed;
+  floors = is.floors;
+  ends = is.ends;
+  applied = λ i below _.
+      let size = length-take n s.pending in
+      is.applied i (omega (arith, below, size)) (stays i (omega (arith, below, size))) ∙ sym (take_get n s.pending i (omega (arith, below, size)));
+}
+
+-- or all are
+pub own_uncut : {A : Type 0} (P : ℕ → Type 0) (a : Agreement) (s : ConsumerState A) → ((i : ℕ) → i < length s.pending → P (s.confirmed + i)) → IsLearned P a s → IsLearned Any a s
+own_uncut P a s stays is = record {
+  shards = is.shards;
+  lanes = is.lanes;
+  confirmed = is.confirmed;
+  floors = is.floors;
+  ends = is.ends;
+  applied = λ i below _. is.applied i below (stays i below);
+}
+
+-- ---- the gone shards are closed
+
+pub no_end : (gs : List Gone) (shard : ℕ) → is_among gs shard ≡ false → end_among gs shard ≡ None
+no_end [] shard none = refl
+no_end (g ∷ gs) shard none =
+    let parts = or_parts (g.shard == shard) (is_among gs shard) none in
+    cond-false _ _ _ parts.0 ∙ no_end gs shard parts.1
+
+pub own_closed : {A : Type 0} (a : Agreement) (s : ConsumerState A) → IsAgreement a → IsLearned Any a s → IsOwn a (close_gone a s)
+own_closed a s agreed is =
+    let lanes = fold close s.lanes a.gone in
+    let whole = IsConsistent-sound a agreed.sound agreed.ended in
+    let count : ℕ → ℕ = λ shard. count_of shard a.covered in
+    record {
+      shards = length_closed a.gone s.lanes ∙ is.shards;
+      lanes = all_closed a.gone s.lanes is.lanes;
+      confirmed = is.confirmed;
+      floors = λ shard small. floor_closed a.gone s.lanes shard ∙ is.floors shard small;
+      ends = λ shard small. elim (cases_Bool (is_among a.gone shard)) [
+        | inl gone ↦ end_closed count a.gone s.lanes shard (omega (arith, small, is.shards)) agreed.ended gone ∙ sym (gone_end-ended a shard agreed.ended gone)
+        | inr stays ↦
+            let none : gone_end a shard ≡ None = no_end a.gone shard stays in
+            end_other a.gone s.lanes shard stays ∙ (is.ends shard small none ∙ sym none)
+      ];
+      applied = λ i below.
+          let at = applied_at a s i below (is.applied i below tt) in
+          let held : held_of lanes at.owner ≡ Some at.rec =
+          held_below count a.gone s.lanes at.owner.shard at.owner.local agreed.ended
+          (λ gone. omega (arith, whole.gone_own_covered at.owner.shard gone, dense-below (map_of a) at.owner.shard at.owner.local (s.confirmed + i) (whole.dense at.owner.shard) at.position))
+          ∙ at.held in
+          applied_still a s lanes i at held;
+    }
