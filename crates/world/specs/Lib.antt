@@ -15,3 +15,9 @@ pub mod Eagerness
 pub mod Playing
 pub mod FirstSteps
 pub mod Broken
+pub mod AnyNodes
+pub mod Places
+pub mod Outboxes
+pub mod Players
+pub mod Insides
+pub mod PlayErrors

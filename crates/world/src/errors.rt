@@ -1,3 +1,4 @@
+use quota_table::OutOfMemory;
 use thiserror::Error;
 
 /// Why a script isn't played to its end. Places of inputs count from 0.
@@ -22,4 +23,15 @@ pub enum PlayError {
     /// Memory was refused.
     #[error("out of memory")]
     OutOfMemory,
+}
+
+impl From<OutOfMemory> for PlayError {
+    ghost use Rattle.std.specs.Prelude.{◌≡◌};
+    ghost use Rattle.world.specs.declared.errors.PlayError.TheVariants.{OutOfMemory as no_memory};
+
+    ghost from_gives = { λ _ e. e ≡ no_memory };
+
+    fn from(_: OutOfMemory) -> PlayError {
+        PlayError::OutOfMemory
+    }
 }

@@ -6,7 +6,18 @@
 //! - [`laws`]: what is shown of these definitions so far.
 #![tactic(auto)]
 
+mod any_node;
+mod cluster;
+mod copies;
 mod errors;
 pub mod laws;
+mod outbox;
+mod player;
+mod scripts;
 
+pub use any_node::AnyNode;
 pub use errors::PlayError;
+pub use scripts::play;
+
+#[cfg(test)]
+mod tests;

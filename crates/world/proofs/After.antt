@@ -1,0 +1,110 @@
+-- What an entry leaves of each node.
+use Rattle.std.proofs.Common.{◌≡◌, ◌&&◌, Bool, true, false, List, [], ◌∷◌, refl, ap, ◌∙◌}
+use Rattle.std.specs.Prelude.{if◌then◌else◌}
+use Rattle.std.specs.List.{AllByRecursion}
+use Rattle.msg_wire.specs.Nodes.{same_node}
+use Rattle.msg_wire.specs.Valid.{IsValidConfig, IsNodeOf, IsValidEvent}
+use Rattle.net_model.specs.Pasts.{Past}
+use Rattle.node_rules.specs.Nodes.{Node}
+use Rattle.node_rules.specs.Turns.{Turn}
+use Rattle.app_law.specs.declared.any_app.AnyApp.{AnyApp}
+use Rattle.seq_node.specs.States.{SequencerState}
+use Rattle.seq_node.specs.Steps.{sequencer_step}
+use Rattle.seq_node.specs.Restart as sequencer
+use Rattle.seq_node.proofs.Lives.{restart_is_the_items as sequencer_restarts}
+use Rattle.shard_node.specs.States.{ReplicaState}
+use Rattle.shard_node.specs.Steps.{replica_step}
+use Rattle.shard_node.specs.Restart as replica
+use Rattle.shard_node.proofs.Lives.{restart_is_the_items as replica_restarts}
+use Rattle.client_node.specs.States.{ClientState}
+use Rattle.client_node.specs.Steps.{client_step}
+use Rattle.client_node.specs.Restart as client
+use Rattle.client_node.proofs.Restarts.{restart-items}
+use Rattle.consumer_node.specs.Apps.{any_meaning}
+use Rattle.consumer_node.specs.States.{ConsumerState}
+use Rattle.consumer_node.specs.Steps.{consumer_step}
+use Rattle.consumer_node.specs.Restart as consumer
+use Rattle.world.specs.declared.any_node.AnyNode.TheVariants as any
+use Rattle.world.specs.Names.{NodeId, Config, Event, HistoryEntry}
+use Rattle.world.specs.Names.nodes
+use Rattle.world.specs.Kinds.{sequencer_table, replica_table, client_table, consumer_table, step_at}
+use Rattle.world.specs.Runs.{IsPastOf}
+use Rattle.world.specs.AnyNodes.{ready, gives_any, leaves_any, is_spent_any, node_after}
+use Rattle.world.proofs.ConsumerLaws.{consumer_restarts}
+use Rattle.world.proofs.InPlace.{with_event, events_of, RestartsInPlace, own_step, other_step}
+
+-- ---- a run's events are valid
+
+valid_if : (own : Bool) (event : Event) (taken : List Event) → IsValidEvent event → AllByRecursion IsValidEvent taken → AllByRecursion IsValidEvent (with_event own event taken)
+valid_if true event taken here before = (here, before)
+valid_if false event taken here before = before
+
+pub events_valid : (cfg : Config) (node : NodeId) (past : Past) → IsPastOf cfg past → AllByRecursion IsValidEvent (events_of node past)
+events_valid cfg node [] run = tt
+events_valid cfg node (e ∷ past) run = valid_if (same_node e.node node) e.event (events_of node past) run.0.valid (events_valid cfg node past run.1)
+
+-- ---- each kind restarts in place
+
+unless_never : {A : Type 0} → (b : Bool) (x y : A) → (if b && false then x else y) ≡ y
+unless_never true x y = refl
+unless_never false x y = refl
+
+pub sequencer_in_place : (cfg : Config) (node : NodeId) → IsValidConfig cfg → IsNodeOf cfg node → RestartsInPlace sequencer_step (sequencer.fresh_node cfg node) (sequencer.restart_of cfg node)
+sequencer_in_place cfg node valid here taken each =
+    ap (λ (t : Turn SequencerState). t.state) (unless_never _ _ _) ∙ sequencer_restarts cfg node taken valid here each
+
+pub replica_in_place : (cfg : Config) (node : NodeId) → IsValidConfig cfg → IsNodeOf cfg node → RestartsInPlace replica_step (replica.fresh_node cfg node) (replica.restart_of cfg node)
+replica_in_place cfg node valid here taken each = replica_restarts cfg node taken valid here each
+
+pub client_in_place : (cfg : Config) (node : NodeId) → RestartsInPlace client_step (client.fresh_node cfg node) (client.restart_of cfg node)
+client_in_place cfg node taken each = restart-items cfg node taken each
+
+pub consumer_in_place : (cfg : Config) (node : NodeId) → IsValidConfig cfg → IsNodeOf cfg node → RestartsInPlace (consumer_step any_meaning) (consumer.fresh_node any_meaning cfg node) (consumer.restart_of any_meaning cfg node)
+consumer_in_place cfg node valid here taken each = consumer_restarts cfg node taken valid here each
+
+-- ---- what an entry leaves
+
+-- of its own node what the step leaves
+pub own_after : (cfg : Config) (node : NodeId) (e : HistoryEntry) (past : Past) → IsValidConfig cfg → IsNodeOf cfg node → IsPastOf cfg past → same_node e.node node ≡ true
+    → node_after cfg (e ∷ past) node ≡ leaves_any (node_after cfg past node) e.event
+own_after cfg (nodes.Seq n) e past valid here run own =
+    let node : NodeId = nodes.Seq n in
+    ap (λ (s : Node SequencerState). any.Seq (ready s))
+    (own_step sequencer_step (sequencer.fresh_node cfg node) (sequencer.restart_of cfg node) node e past (sequencer_in_place cfg node valid here) (events_valid cfg node past run) own)
+own_after cfg (nodes.Shard n side) e past valid here run own =
+    let node : NodeId = nodes.Shard n side in
+    ap (λ (s : Node ReplicaState). any.Shard (ready s))
+    (own_step replica_step (replica.fresh_node cfg node) (replica.restart_of cfg node) node e past (replica_in_place cfg node valid here) (events_valid cfg node past run) own)
+own_after cfg (nodes.Client n) e past valid here run own =
+    let node : NodeId = nodes.Client n in
+    ap (λ (s : Node ClientState). any.Client (ready s))
+    (own_step client_step (client.fresh_node cfg node) (client.restart_of cfg node) node e past (client_in_place cfg node) (events_valid cfg node past run) own)
+own_after cfg (nodes.Consumer n) e past valid here run own =
+    let node : NodeId = nodes.Consumer n in
+    ap (λ (s : Node (ConsumerState AnyApp)). any.Consumer (ready s))
+    (own_step (consumer_step any_meaning) (consumer.fresh_node any_meaning cfg node) (consumer.restart_of any_meaning cfg node) node e past (consumer_in_place cfg node valid here) (events_valid cfg node past run) own)
+
+-- of another node what was
+pub other_after : (cfg : Config) (node : NodeId) (e : HistoryEntry) (past : Past) → same_node e.node node ≡ false → node_after cfg (e ∷ past) node ≡ node_after cfg past node
+other_after cfg (nodes.Seq n) e past other =
+    ap (λ (s : Node SequencerState). any.Seq (ready s)) (other_step (sequencer_table cfg (nodes.Seq n)) (nodes.Seq n) e past other)
+other_after cfg (nodes.Shard n side) e past other =
+    ap (λ (s : Node ReplicaState). any.Shard (ready s)) (other_step (replica_table cfg (nodes.Shard n side)) (nodes.Shard n side) e past other)
+other_after cfg (nodes.Client n) e past other =
+    ap (λ (s : Node ClientState). any.Client (ready s)) (other_step (client_table cfg (nodes.Client n)) (nodes.Client n) e past other)
+other_after cfg (nodes.Consumer n) e past other =
+    ap (λ (s : Node (ConsumerState AnyApp)). any.Consumer (ready s)) (other_step (consumer_table cfg (nodes.Consumer n)) (nodes.Consumer n) e past other)
+
+-- a node gives what its table says
+pub gives_after : (cfg : Config) (node : NodeId) (past : Past) (event : Event) → gives_any (node_after cfg past node) event ≡ step_at cfg node past event
+gives_after cfg (nodes.Seq n) past event = refl
+gives_after cfg (nodes.Shard n side) past event = refl
+gives_after cfg (nodes.Client n) past event = refl
+gives_after cfg (nodes.Consumer n) past event = refl
+
+-- and is not spent
+pub ready_after : (cfg : Config) (node : NodeId) (past : Past) → is_spent_any (node_after cfg past node) ≡ false
+ready_after cfg (nodes.Seq n) past = refl
+ready_after cfg (nodes.Shard n side) past = refl
+ready_after cfg (nodes.Client n) past = refl
+ready_after cfg (nodes.Consumer n) past = refl

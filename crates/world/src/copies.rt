@@ -1,0 +1,27 @@
+//! Copies that equal what they are copies of.
+
+ghost use Rattle.std.specs.Prelude.{◌≡◌, IfOk};
+
+use msg_wire::{Command, Config, Message};
+use quota_table::OutOfMemory;
+
+/// A copy of a cluster.
+pub(crate) fn copy_of(cfg: &Config) -> Result<Config, OutOfMemory>
+    ensures { IfOk result (λ copy. copy ≡ cfg.now) }
+{
+    Ok(cfg.clone()?)
+}
+
+/// A copy of a command.
+pub(crate) fn copy_of_command(command: &Command) -> Result<Command, OutOfMemory>
+    ensures { IfOk result (λ copy. copy ≡ command.now) }
+{
+    Ok(command.clone()?)
+}
+
+/// A copy of a message.
+pub(crate) fn copy_of_message(message: &Message) -> Result<Message, OutOfMemory>
+    ensures { IfOk result (λ copy. copy ≡ message.now) }
+{
+    Ok(message.clone()?)
+}

@@ -1,0 +1,252 @@
+ghost use Rattle.std.specs.Prelude.{◌≡◌, ◌<◌, [], length, reverse, slice_get, Some, IfOk};
+ghost use Rattle.net_model.specs.Pasts.{past_of, sent};
+ghost use Rattle.msg_wire.specs.Inputs.{IsInputOf};
+ghost use Rattle.msg_wire.specs.Nodes.{nodes_of};
+ghost use Rattle.msg_wire.specs.Steps.{AreValidMessages};
+ghost use Rattle.msg_wire.specs.Valid.{IsValidConfig, IsNodeOf, IsValidMessage, IsBody, IsSequencerOf, IsCommandOf};
+ghost use Rattle.world.specs.Names.nodes;
+ghost use Rattle.world.specs.Names.events;
+ghost use Rattle.world.specs.Playing.{nothing_played};
+ghost use Rattle.world.specs.Players.{kept_of, happens, settles, delivers, ticks_next, drains_once, drains, plays, IsSentBefore, CanTake};
+ghost use Rattle.world.specs.Runs.{IsRun};
+
+use crate::any_node::AnyNode;
+use crate::cluster::{fresh_nodes, nodes_in_order, place_of, step_at};
+use crate::copies::{copy_of, copy_of_command, copy_of_message};
+use crate::outbox::Outbox;
+use msg_wire::{Command, Config, Event, Input, Message, Step};
+use net_model::{History, HistoryEntry};
+use quota_table::OutOfMemory;
+use record_codec::Body;
+use spec_base::NodeId;
+use std::alloc::Global;
+use std::marker::Model;
+
+/// A script as it is played: the nodes, the entries so far, and what a drain needs.
+///
+/// A call that makes entries is linear in what their steps read, send and show; any other is O(1).
+/// After want of memory a player is gone.
+#[derive(Drop)]
+pub(crate) struct Player {
+    cfg: Config,
+    /// The nodes' names in their order.
+    order: Vec<NodeId>,
+    /// The nodes in the same order.
+    nodes: Vec<AnyNode>,
+    /// The entries so far, the oldest first.
+    history: History,
+    /// The messages that these sent.
+    outbox: Outbox,
+    /// The place of the node that a drain ticks next.
+    turn: usize,
+}
+
+impl Model for Player {
+    ghost use Rattle.world.specs.Players.{PlayerState};
+
+    ghost Value = { PlayerState };
+
+    ghost use Rattle.world.specs.Insides.{player_of, IsPlayer};
+
+    ghost view = { player_of };
+
+    ghost invariant = { IsPlayer };
+}
+
+impl Player {
+    /// Nothing is played yet.
+    pub fn new(alloc: Global, cfg: &Config) -> Result<Player, OutOfMemory>
+        requires { IsValidConfig cfg.now }
+        ensures { IfOk result (λ player. player ≡ kept_of cfg.now nothing_played) }
+    {
+        let order = nodes_in_order(alloc, cfg)?;
+        let nodes = fresh_nodes(alloc, cfg, order.as_slice())?;
+        Ok(Player {
+            cfg: copy_of(cfg)?,
+            order,
+            nodes,
+            history: History::new(alloc),
+            outbox: Outbox::new(alloc),
+            turn: 0,
+        })
+    }
+
+    /// How many entries there are.
+    pub fn entries(&self) -> usize
+        ensures { result ≡ length self.now.past }
+    {
+        self.history.len()
+    }
+
+    /// How many messages were sent.
+    pub fn sent(&self) -> usize
+        ensures { result ≡ length (sent self.now.past) }
+    {
+        self.outbox.len()
+    }
+
+    /// The entries, the oldest first.
+    pub fn into_history(self) -> History
+        ensures history { result ≡ reverse self.past }
+        ensures run { IsRun self.cfg result }
+        ensures messages { AreValidMessages (sent (past_of result)) }
+    {
+        self.history
+    }
+
+    /// An input is played.
+    pub fn play(self, alloc: Global, input: &Input) -> Result<Player, OutOfMemory>
+        requires given { IsInputOf self.cfg input.now }
+        requires sent { IsSentBefore (length (sent self.past)) input.now }
+        ensures { IfOk result (λ player. player ≡ plays self input.now) }
+    {
+        match input {
+            Input::Submit { client, body } => self.submit(alloc, *client, body),
+            Input::Deliver { number } => self.deliver(alloc, *number as usize),
+            Input::Lose { number } => Ok(self.settle(*number as usize)),
+            Input::Tick { node } => self.happen(alloc, *node, Event::Tick),
+            Input::Restart { node } => self.happen(alloc, *node, Event::Restart),
+            Input::Command { node, command } => self.command(alloc, *node, command),
+            Input::Drain { count } => self.drain(alloc, *count),
+        }
+    }
+}
+
+impl Player {
+    /// A node takes an event.
+    fn happen(self, alloc: Global, node: NodeId, event: Event) -> Result<Player, OutOfMemory>
+        requires { CanTake self.cfg self.past node event }
+        ensures { IfOk result (λ player. player ≡ happens node event self) }
+    {
+        let Player {
+            cfg,
+            order,
+            mut nodes,
+            mut history,
+            outbox,
+            turn,
+        } = self;
+        let place = place_of(&cfg, node);
+        let Step {
+            stable: _stable,
+            sends,
+            marks,
+        } = step_at(&mut nodes, place, alloc, &event)?;
+        let outbox = outbox.push(history.len(), sends.len())?;
+        history.push(HistoryEntry {
+            node,
+            event,
+            sends,
+            marks,
+        })?;
+        Ok(Player {
+            cfg,
+            order,
+            nodes,
+            history,
+            outbox,
+            turn,
+        })
+    }
+
+    /// A client is given a body.
+    fn submit(self, alloc: Global, client: u8, body: &Body) -> Result<Player, OutOfMemory>
+        requires client { client < length self.cfg.homes }
+        requires body { IsBody body.now }
+        ensures { IfOk result (λ player. player ≡ happens (nodes.Client client) (events.Submit 0 body.now) self) }
+    {
+        let event = Event::Submit {
+            by: 0,
+            body: body.clone()?,
+        };
+        self.happen(alloc, NodeId::Client(client), event)
+    }
+
+    /// A sequencer is told what to propose.
+    fn command(self, alloc: Global, node: NodeId, command: &Command) -> Result<Player, OutOfMemory>
+        requires node { IsSequencerOf self.cfg node }
+        requires command { IsCommandOf self.cfg command.now }
+        ensures { IfOk result (λ player. player ≡ happens node (events.Command command.now) self) }
+    {
+        let event = Event::Command(copy_of_command(command)?);
+        self.happen(alloc, node, event)
+    }
+
+    /// A copy of the message of a number.
+    fn message(&self, number: usize) -> Result<Message, OutOfMemory>
+        requires { number < length (sent self.now.past) }
+        ensures message { IfOk result (λ message. slice_get (sent self.now.past) number ≡ Some message) }
+        ensures valid { IfOk result IsValidMessage }
+        ensures within { IfOk result (λ message. IsNodeOf self.now.cfg message.to) }
+    {
+        let Some(place) = self.outbox.place(number) else {
+            unreachable!()
+        };
+        let Some(entry) = self.history.get(place.entry as u64) else {
+            unreachable!()
+        };
+        let Some(message) = entry.sends.get(place.at as u64) else {
+            unreachable!()
+        };
+        copy_of_message(message)
+    }
+
+    /// The message of a number is delivered or passed over from now on.
+    fn settle(mut self, number: usize) -> Player
+        requires { number < length (sent self.past) }
+        ensures { result ≡ settles number self }
+    {
+        self.outbox.settle(number);
+        self
+    }
+
+    /// The message of a number comes to the node that it was sent to.
+    fn deliver(self, alloc: Global, number: usize) -> Result<Player, OutOfMemory>
+        requires { number < length (sent self.past) }
+        ensures { IfOk result (λ player. player ≡ delivers number self) }
+    {
+        let message = self.message(number)?;
+        let node = message.to;
+        self.settle(number)
+            .happen(alloc, node, Event::Deliver(message))
+    }
+
+    /// The node whose turn it is ticks, and the turn goes on.
+    fn tick_next(self, alloc: Global) -> Result<Player, OutOfMemory>
+        ensures { IfOk result (λ player. player ≡ ticks_next self) }
+    {
+        let node = self.order[self.turn];
+        let next = (self.turn + 1) % self.order.len();
+        self.turn_to(next).happen(alloc, node, Event::Tick)
+    }
+
+    /// The turn goes to the node at a place.
+    fn turn_to(mut self, turn: usize) -> Player
+        requires { turn < length (nodes_of self.cfg) }
+        ensures { result ≡ record self { turn = turn } }
+    {
+        self.turn = turn;
+        self
+    }
+
+    /// One input of a drain: the least open message is delivered, or else a node ticks.
+    fn drain_once(mut self, alloc: Global) -> Result<Player, OutOfMemory>
+        ensures { IfOk result (λ player. player ≡ drains_once self) }
+    {
+        match self.outbox.next_open() {
+            Some(number) => self.deliver(alloc, number),
+            None => self.tick_next(alloc),
+        }
+    }
+
+    /// So many inputs of a drain.
+    fn drain(self, alloc: Global, count: u32) -> Result<Player, OutOfMemory>
+        ensures { IfOk result (λ player. player ≡ drains count self) }
+    {
+        let mut player = self;
+        for _ in 0..count {
+            player = player.drain_once(alloc)?;
+        }
+        Ok(player)
+    }
+}
