@@ -5,3 +5,9 @@ pub mod Consumers
 pub mod Clients
 pub mod Report
 pub mod Rows
+pub mod Telling
+pub mod Confirming
+pub mod Consuming
+pub mod Insides
+pub mod Submitting
+pub mod Gathering

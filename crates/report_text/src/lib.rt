@@ -1,8 +1,21 @@
-//! The report of a history, as a definition.
+//! The report of a history.
 //!
-//! - `specs/Report.antt`: `report_of`, what a report says, line by line, as a function of a cluster and a history.
+//! - [`report`]: what a history shows, line by line, as bytes.
+//! - `specs/Report.antt`: `report_of`, what a report says as a function of a cluster and a history.
 #![tactic(auto)]
 
+mod clients;
+mod consumer_lines;
+mod consumers;
+mod gathered;
+mod positions;
+mod reporting;
 mod rows;
+mod slots;
+mod text;
 
+pub use reporting::report;
 pub use rows::rows_compute;
+
+#[cfg(test)]
+mod tests;

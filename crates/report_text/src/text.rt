@@ -1,0 +1,13 @@
+ghost use Rattle.std.specs.Prelude.{◌≡◌, ◌++◌, OnOk};
+ghost use Rattle.report_text.specs.Lines.{counted};
+
+use itoa::Buffer;
+use quota_table::{Bytes, OutOfMemory};
+
+/// Puts words at the end, and the number that follows them.
+pub fn put_counted(text: &mut Bytes, words: &[u8], number: u64) -> Result<(), OutOfMemory>
+    ensures { OnOk result (text.new ≡ text.old ++ counted words.now number) }
+{
+    text.extend_from_slice(words)?;
+    text.extend_from_slice(Buffer::new().format(number).as_bytes())
+}
