@@ -1,1 +1,3 @@
-pub mod FormLemmas
+pub mod Inputs
+pub mod Refusing
+pub mod Completing

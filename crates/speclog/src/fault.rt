@@ -16,12 +16,28 @@ pub enum Fault {
     /// More than 16,777,216 bytes were read.
     #[error("input too long")]
     InputTooLong,
-    /// A line of the script is refused.
+    /// A line of the script is refused by the grammar.
     #[error("line {line}: {kind}")]
     Script {
         /// The first line that is refused, from 1.
         line: u32,
         kind: ScriptKind,
+    },
+    /// A line of the script delivers or loses a message that was not sent yet.
+    #[error("line {line}: no message {number}, sent {sent}")]
+    NoMessage {
+        /// The first line that is refused, from 1.
+        line: u32,
+        /// The message that it names.
+        number: u64,
+        /// How many messages were sent before it.
+        sent: u64,
+    },
+    /// A line of the script would bring the entries past 200,000.
+    #[error("line {line}: too many entries")]
+    TooLong {
+        /// The first line that is refused, from 1.
+        line: u32,
     },
     /// Memory was refused.
     #[error("out of memory")]
@@ -41,7 +57,10 @@ impl Fault {
     {
         match self {
             Fault::Usage { .. } => 2,
-            Fault::InputTooLong | Fault::Script { .. } => 3,
+            Fault::InputTooLong
+            | Fault::Script { .. }
+            | Fault::NoMessage { .. }
+            | Fault::TooLong { .. } => 3,
             Fault::ReadFault => 4,
             Fault::WriteFault => 5,
             Fault::OutOfMemory => 6,

@@ -9,7 +9,6 @@ mod output;
 mod play;
 #[cfg(test)]
 mod tests;
-mod thin;
 mod top;
 mod words;
 

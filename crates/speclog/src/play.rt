@@ -1,25 +1,36 @@
 //! What `play` does with a script that was read to its end.
 
-ghost use Rattle.std.specs.Prelude.{◌≡◌, ◌≤◌, false, [], length, Some, is_some, IfSome, IsTrue};
-ghost use Rattle.std.specs.Result.{result_err};
+ghost use Rattle.std.specs.Prelude.{◌≡◌, ◌≤◌, false, [], length, Ok, Err, None, Some, is_some, IfOk, IfErr, OnOk, IsTrue};
+ghost use Rattle.std.specs.List.{AllByRecursion};
 ghost use Rattle.spec_base.specs.Faults.{Rose};
-ghost use Rattle.speclog.specs.Answers.{status_of, is_played, is_of_whole_input, is_after_reading, is_of_playing, refusal_in, refusal_of, SpeaksOfOutput};
+ghost use Rattle.msg_wire.specs.Valid.{IsValidConfig};
+ghost use Rattle.msg_wire.specs.Inputs.{IsInputOf};
+ghost use Rattle.msg_wire.specs.Steps.{AreValidMessages};
+ghost use Rattle.net_model.specs.Pasts.{past_of, sent};
+ghost use Rattle.script_text.specs.Reading.{script_in};
+ghost use Rattle.world.specs.Runs.{IsRun};
+ghost use Rattle.world.specs.Playing.{history_of, play_fault};
+ghost use Rattle.speclog.specs.Answers.{status_of, is_played, is_of_whole_input, is_after_reading, refusal_in};
+ghost use Rattle.report_text.specs.Report.{report_of};
+ghost use Rattle.speclog.specs.Plays.{Plays, Writes};
+ghost use Rattle.speclog.specs.Refusals.{refusal_of, fault_of_play, at_line, Refuses, IsWithin};
 
 use crate::fault::Fault;
 use crate::outcome::Outcome;
 use crate::output::write_all;
-use crate::thin::cluster::play;
-use crate::thin::form::{Form, read};
-use crate::thin::report::report;
 use net_model::History;
-use quota_table::{Asked, Bytes, OutOfMemory, check};
-use record_codec::Body;
-use script_text::ScriptKind;
+use quota_table::{Bytes, OutOfMemory};
+use report_text::report;
+use script_text::{
+    LineNumbers, Script, ScriptError, ScriptKind, has_head_before, read_before, read_script,
+};
 use spec_base::{Sink, Stop};
 use std::alloc::Global;
+use world::PlayError;
 
 /// Plays a script, and writes the report once it is whole.
 pub fn play_text<K: Sink>(alloc: Global, text: &[u8], sink: &mut K) -> Outcome
+    requires { length text.now ≤ 16777216 }
     ensures status { result.status ≡ status_of result.fault }
     ensures history { is_some result.history ≡ is_played result.fault }
     ensures looks { result.looks ≡ [] }
@@ -28,7 +39,7 @@ pub fn play_text<K: Sink>(alloc: Global, text: &[u8], sink: &mut K) -> Outcome
     ensures after_reading { IsTrue (is_after_reading result.fault) }
     ensures refused { IsTrue (is_of_whole_input result.fault) → refusal_in result.fault ≡ refusal_of text.now }
     ensures write_fault { result.fault ≡ Some Fault.WriteFault → Rose (K.faults sink.old) (K.faults sink.new) }
-    ensures output { SpeaksOfOutput (K.taken sink.old) (K.taken sink.new) result.fault }
+    ensures written { Writes result.fault result.history text.now (K.taken sink.old) (K.taken sink.new) }
 {
     let Played { history, report } = match play_whole(alloc, text) {
         Ok(played) => played,
@@ -48,36 +59,92 @@ struct Played {
     report: Bytes,
 }
 
-/// Plays a script to its end, or says which line is refused.
+/// Plays a text to its end, or says which line is refused.
 fn play_whole(alloc: Global, text: &[u8]) -> Result<Played, Fault>
-    ensures playing { IsTrue (is_of_playing (result_err result)) }
-    ensures refused { IsTrue (is_of_whole_input (result_err result)) → refusal_in (result_err result) ≡ refusal_of text.now }
+    requires { length text.now ≤ 16777216 }
+    ensures played { IfOk result (λ p. Plays text.now p.history p.report) }
+    ensures accepted { OnOk result (refusal_of text.now ≡ None) }
+    ensures refused { IfErr result (λ fault. Refuses fault (refusal_of text.now)) }
 {
-    match read(text) {
-        Ok(form) => match play_form(alloc, form) {
-            Ok(played) => Ok(played),
-            Err(OutOfMemory) => Err(Fault::OutOfMemory),
-        },
-        Err(refused) => Err(Fault::Script {
-            line: refused.0,
-            kind: ScriptKind::NotBuilt,
-        }),
+    match read_script(alloc, text) {
+        Ok(script) => play_script(alloc, &script),
+        Err(ScriptError::At { line, kind }) => Err(refused_at(alloc, text, line, kind)),
+        Err(ScriptError::OutOfMemory) => Err(Fault::OutOfMemory),
     }
 }
 
-/// Plays what a text of the form says.
-fn play_form(alloc: Global, form: Form) -> Result<Played, OutOfMemory>
-    requires { IfSome form.body (λ body. length body.now ≤ 1024) }
+/// Plays what a text spells.
+fn play_script(alloc: Global, script: &Script) -> Result<Played, Fault>
+    requires valid { IsValidConfig script.now.cfg }
+    requires within { AllByRecursion (IsInputOf script.now.cfg) script.now.inputs }
+    requires lines { length script.now.lines ≡ length script.now.inputs }
+    ensures history { IfOk result (λ p. p.history ≡ history_of script.now.cfg script.now.inputs) }
+    ensures run { IfOk result (λ p. IsRun script.now.cfg p.history) }
+    ensures report { IfOk result (λ p. p.report ≡ report_of script.now.cfg p.history) }
+    ensures accepted { OnOk result (play_fault script.now.cfg script.now.inputs ≡ None) }
+    ensures refused { IfErr result (λ fault. Refuses fault (fault_of_play script.now.cfg script.now.inputs script.now.lines)) }
 {
-    let table = match check(&[Asked { shard: 0, quota: 1 }]) {
-        Ok(table) => table,
-        Err(_) => unreachable!(),
-    };
-    let body = match form.body {
-        Some(bytes) => Some(Body::of(alloc, bytes)?),
-        None => None,
-    };
-    let history = play(alloc, &table, body, form.drain)?;
-    let report = report(alloc, &history)?;
-    Ok(Played { history, report })
+    let history = play_inputs(alloc, script)?;
+    match report(alloc, &script.cfg, &history) {
+        Ok(report) => Ok(Played { history, report }),
+        Err(OutOfMemory) => Err(Fault::OutOfMemory),
+    }
+}
+
+/// The history of a script, or the fault of its first input that is refused.
+fn play_inputs(alloc: Global, script: &Script) -> Result<History, Fault>
+    requires valid { IsValidConfig script.now.cfg }
+    requires within { AllByRecursion (IsInputOf script.now.cfg) script.now.inputs }
+    requires lines { length script.now.lines ≡ length script.now.inputs }
+    ensures history { IfOk result (λ history. history ≡ history_of script.now.cfg script.now.inputs) }
+    ensures run { IfOk result (λ history. IsRun script.now.cfg history) }
+    ensures messages { IfOk result (λ history. AreValidMessages (sent (past_of history))) }
+    ensures accepted { OnOk result (play_fault script.now.cfg script.now.inputs ≡ None) }
+    ensures refused { IfErr result (λ fault. Refuses fault (fault_of_play script.now.cfg script.now.inputs script.now.lines)) }
+{
+    match world::play(alloc, &script.cfg, script.inputs.as_slice()) {
+        Ok(history) => Ok(history),
+        Err(error) => Err(fault_at(&script.lines, error)),
+    }
+}
+
+/// Why an input is refused, told by its line.
+fn fault_at(lines: &LineNumbers, error: PlayError) -> Fault
+    requires { IsWithin (length lines.now) error }
+    ensures { Refuses result (at_line lines.now error) }
+{
+    match error {
+        PlayError::NoMessage { at, number, sent } => match lines.get(at as u64) {
+            Some(line) => Fault::NoMessage {
+                line: *line,
+                number,
+                sent,
+            },
+            None => unreachable!(),
+        },
+        PlayError::TooLong { at } => match lines.get(at as u64) {
+            Some(line) => Fault::TooLong { line: *line },
+            None => unreachable!(),
+        },
+        PlayError::OutOfMemory => Fault::OutOfMemory,
+    }
+}
+
+/// The fault of a text that the grammar refuses at a line: that of an input before it, if one is refused, or else the
+/// grammar's.
+fn refused_at(alloc: Global, text: &[u8], line: u32, kind: ScriptKind) -> Fault
+    requires size { length text.now ≤ 16777216 }
+    requires refused { script_in text.now ≡ Err (line, kind) }
+    ensures { Refuses result (refusal_of text.now) }
+{
+    if !has_head_before(text, line) {
+        return Fault::Script { line, kind };
+    }
+    match read_before(alloc, text, line) {
+        Ok(script) => match play_inputs(alloc, &script) {
+            Ok(_) => Fault::Script { line, kind },
+            Err(fault) => fault,
+        },
+        Err(OutOfMemory) => Fault::OutOfMemory,
+    }
 }

@@ -2,7 +2,8 @@
 
 ghost use Rattle.std.specs.Prelude.{◌≡◌, ℕ, List, false, [], Some, is_some, map, string_bytes};
 ghost use Rattle.spec_base.specs.Faults.{Rose};
-ghost use Rattle.speclog.specs.Answers.{status_of, usage_of, usage_place, is_played, fault_of_read, SpeaksOfInput, SpeaksOfOutput};
+ghost use Rattle.speclog.specs.Answers.{status_of, usage_of, usage_place, is_played, fault_of_read, SpeaksOf};
+ghost use Rattle.speclog.specs.Completeness.{IsPlayed};
 
 use crate::fault::Fault;
 use crate::input::{ReadError, read_all};
@@ -34,9 +35,9 @@ pub fn top<R: AllocGlobal + Threads + Wait + Sync, S: Source, K: Sink, H: Shelf>
 
     ensures usage { usage_of result.fault ≡ usage_place (map string_bytes words.now) }
     ensures read_fault { result.fault ≡ Some Fault.ReadFault → Rose (S.faults source.old) (S.faults source.new) }
-    ensures input { SpeaksOfInput (S.left source.old) (S.left source.new) result.fault }
     ensures write_fault { result.fault ≡ Some Fault.WriteFault → Rose (K.faults sink.old) (K.faults sink.new) }
-    ensures output { SpeaksOfOutput (K.taken sink.old) (K.taken sink.new) result.fault }
+    ensures answer { SpeaksOf (S.left source.old) (S.left source.new) (K.taken sink.old) (K.taken sink.new) result.fault result.history }
+    ensures played { IsPlayed (map string_bytes words.now) (S.left source.old) result.fault (Rose (S.faults source.old) (S.faults source.new)) (Rose (K.faults sink.old) (K.faults sink.new)) }
     ensures shelf { shelf.new ≡ shelf.old }
 {
     top_play(rt.alloc(), words, source, sink)
@@ -56,9 +57,9 @@ pub fn top_play<S: Source, K: Sink>(
 
     ensures usage { usage_of result.fault ≡ usage_place (map string_bytes words.now) }
     ensures read_fault { result.fault ≡ Some Fault.ReadFault → Rose (S.faults source.old) (S.faults source.new) }
-    ensures input { SpeaksOfInput (S.left source.old) (S.left source.new) result.fault }
     ensures write_fault { result.fault ≡ Some Fault.WriteFault → Rose (K.faults sink.old) (K.faults sink.new) }
-    ensures output { SpeaksOfOutput (K.taken sink.old) (K.taken sink.new) result.fault }
+    ensures answer { SpeaksOf (S.left source.old) (S.left source.new) (K.taken sink.old) (K.taken sink.new) result.fault result.history }
+    ensures played { IsPlayed (map string_bytes words.now) (S.left source.old) result.fault (Rose (S.faults source.old) (S.faults source.new)) (Rose (K.faults sink.old) (K.faults sink.new)) }
 {
     if let Some(word) = misplaced(words) {
         return Outcome::refused(alloc, Fault::Usage { word });

@@ -1,0 +1,96 @@
+#!/usr/bin/env python3
+"""Makes large scripts, plays them with the program as it is built, and prints times and memory.
+
+    scripts/performance.py PROGRAM [FOLDER]
+
+PROGRAM is crates/speclog/out/speclog after a build; the scripts are left in FOLDER where one is named. A time is the least
+of seven runs, memory the greatest resident size of one run.
+"""
+import os
+import subprocess
+import sys
+import tempfile
+import time
+
+RUNS = 7
+LARGEST = ["belfast 1", "seqs 5", "shards 6", "window 16 0:4 1:4 2:4 3:4 4:4 5:4", "clients 0 1 2 3 4 5", "consumers 4 tally"]
+PLENTY = 400  # ticks and deliveries after each round of submissions: more than a round needs
+
+
+def busy(entries):
+    """Submissions of all clients in turn, each round with a drain, up to so many entries."""
+    lines, made, number = list(LARGEST), 0, 0
+    while made + 6 + PLENTY <= entries:
+        lines += [f"submit {client} {number + client}" for client in range(6)] + [f"drain {PLENTY}"]
+        made += 6 + PLENTY
+        number += 6
+    return lines + [f"drain {entries - made}"]
+
+
+def restarts(node, count):
+    """So many entries, and then as many restarts of one node."""
+    return busy(count) + [f"restart {node}"] * count
+
+
+def at_once(entries, rounds):
+    """All submissions first, and then one drain."""
+    lines = list(LARGEST)
+    for number in range(rounds):
+        lines += [f"submit {client} {number}" for client in range(6)]
+    return lines + [f"drain {entries - 6 * rounds}"]
+
+
+def scripts():
+    yield "idle", at_once(200_000, 0)
+    yield "at_once", at_once(200_000, 500)
+    yield "tenth", busy(20_000)
+    yield "whole", busy(200_000)
+    for node in ["q0", "s0p", "s0b", "c0", "k0"]:
+        yield f"restarts_{node}", restarts(node, 100_000)
+    yield "half", busy(100_000)
+    yield "rollbacks", rollbacks()
+
+
+def rollbacks():
+    """Windows that are granted and shards that are removed while records are under way."""
+    lines, made = list(LARGEST), 0
+    for shard in range(5):
+        for number in range(60):
+            lines += [f"submit {client} {number}" for client in range(6)]
+        made += 6 * 60
+        lines += ["drain 9000", f"remove q0 {shard}", "drain 9000"]
+        made += 18_001
+    return lines + [f"drain {200_000 - made}"]
+
+
+def run(program, path):
+    with open(path, "rb") as script, open(os.devnull, "wb") as sink:
+        begin = time.perf_counter()
+        child = subprocess.Popen([program, "play"], stdin=script, stdout=sink)
+        _, status, usage = os.wait4(child.pid, 0)
+        took = time.perf_counter() - begin
+    if status != 0:
+        sys.exit(f"{path}: status {status}")
+    return took, usage.ru_maxrss / 1024
+
+
+def main():
+    if len(sys.argv) not in (2, 3):
+        sys.exit(__doc__)
+    program = os.path.abspath(sys.argv[1])
+    with tempfile.TemporaryDirectory() as made:
+        folder = sys.argv[2] if len(sys.argv) == 3 else made
+        os.makedirs(folder, exist_ok=True)
+        figures = {}
+        for name, lines in scripts():
+            path = os.path.join(folder, f"{name}.script")
+            with open(path, "w", encoding="ascii") as script:
+                script.write("\n".join(lines) + "\n")
+            runs = [run(program, path) for _ in range(RUNS)]
+            figures[name] = (min(took for took, _ in runs), max(size for _, size in runs))
+            took, size = figures[name]
+            print(f"{name:14} {took * 1000:7.1f} ms {size:7.1f} MB")
+        print(f"ten times the entries take {figures['whole'][0] / figures['tenth'][0]:.1f} times as long")
+
+
+main()
