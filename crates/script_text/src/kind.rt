@@ -34,7 +34,4 @@ pub enum ScriptKind {
         /// How many it has.
         len: usize,
     },
-    /// The line is of a form that is not built yet.
-    #[error("not built")]
-    NotBuilt,
 }
