@@ -18,6 +18,7 @@ pub mod WithinAgreed
 pub mod WithinReplicas
 pub mod WithinClients
 pub mod WithinConsumers
+pub mod WithinDeciding
 pub mod WithinSequencers
 pub mod WithinRuns
 pub mod Happening

@@ -33,7 +33,8 @@ use Rattle.world.specs.Players.{IsCommandAt, AreCommandsOf}
 use Rattle.world.proofs.InPlace.{with_event, events_of, table_of, RestartsInPlace, progress_is}
 use Rattle.world.proofs.After.{events_valid, sequencer_in_place, replica_in_place, client_in_place, consumer_in_place}
 use Rattle.world.proofs.Within.{CommandHasNodes, GoesWithin, TakesWithin, StaysWithin, IsWithin}
-use Rattle.world.proofs.WithinSequencers.{HasEntries, sequencer_within}
+use Rattle.world.proofs.WithinDeciding.{HasEntries}
+use Rattle.world.proofs.WithinSequencers.{sequencer_within}
 use Rattle.world.proofs.WithinReplicas.{HasShard, replica_within}
 use Rattle.world.proofs.WithinClients.{HasHome, client_within}
 use Rattle.world.proofs.WithinConsumers.{HasAny, consumer_within}

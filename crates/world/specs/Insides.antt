@@ -2,13 +2,20 @@
 use Rattle.std.specs.Prelude.{◌≡◌, ◌<◌, length}
 use Rattle.net_model.specs.Pasts.{past_of}
 use Rattle.msg_wire.specs.Nodes.{nodes_of}
+use Rattle.world.specs.declared.player.Parts.{Parts}
 use Rattle.world.specs.declared.player.Player.TheInside.{Inside}
 use Rattle.world.specs.Players.{PlayerState, IsPlayed}
 
-abbrev pub player_of : Inside → PlayerState
-player_of i = record { cfg = i.cfg; past = past_of i.history; settled = i.outbox.settled; turn = i.turn }
+abbrev pub shown_by : Parts → PlayerState
+shown_by p = record { cfg = p.cfg; past = past_of p.history; settled = p.outbox.settled; turn = p.turn }
 
-pub record IsPlayer (i : Inside) : Type 0 where
-  pub order : i.order.items ≡ nodes_of i.cfg
-  pub turn : i.turn < length (nodes_of i.cfg)
-  pub played : IsPlayed i.cfg (past_of i.history) i.nodes.items i.outbox.places i.outbox.settled
+abbrev pub player_of : Inside → PlayerState
+player_of i = shown_by i.parts.value
+
+pub record AreParts (p : Parts) : Type 0 where
+  pub order : p.order.items ≡ nodes_of p.cfg
+  pub turn : p.turn < length (nodes_of p.cfg)
+  pub played : IsPlayed p.cfg (past_of p.history) p.nodes.items p.outbox.places p.outbox.settled
+
+abbrev pub IsPlayer : Inside → Type 0
+IsPlayer i = AreParts i.parts.value

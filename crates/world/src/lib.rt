@@ -2,7 +2,8 @@
 //!
 //! - `specs/Runs.antt`: `IsRun`, the histories that follow the step tables of the four kinds of node.
 //! - `specs/Safety.antt`: `IsSafe`, the five laws of safety; `specs/Cuts.antt` and `specs/Eagerness.antt`: two laws more.
-//! - `specs/Playing.antt`: the history that a script's inputs make. [`PlayError`] says why an input is refused.
+//! - `specs/Playing.antt`: the history that a script's inputs make. [`play`] makes it, over nodes of any kind ([`AnyNode`]);
+//!   [`PlayError`] says why an input is refused.
 //! - [`laws`]: what is shown of these definitions so far.
 #![tactic(auto)]
 

@@ -1,4 +1,4 @@
-ghost use Rattle.std.specs.Prelude.{◌≡◌, ◌<◌, ◌++◌, [], true, false, not, length, replicate, slice_get, slice_set, IfOk};
+ghost use Rattle.std.specs.Prelude.{◌≡◌, ◌<◌, ◌++◌, [], true, false, not, length, replicate, slice_get, slice_set, OnOk};
 ghost use Rattle.std.specs.List.{position_from};
 ghost use Rattle.world.specs.Places.{places_in};
 
@@ -52,23 +52,14 @@ impl Outbox {
     }
 
     /// So many messages more, which one entry sends; none of them is settled.
-    pub fn push(self, entry: usize, count: usize) -> Result<Outbox, OutOfMemory>
-        ensures { IfOk result (λ outbox. outbox ≡ record { places = self.places ++ places_in entry count; settled = self.settled ++ replicate count false }) }
+    pub fn push(&mut self, entry: usize, count: usize) -> Result<(), OutOfMemory>
+        ensures { OnOk result (self.new ≡ record { places = self.old.places ++ places_in entry count; settled = self.old.settled ++ replicate count false }) }
     {
-        let Outbox {
-            mut places,
-            mut settled,
-            next,
-        } = self;
         for at in 0..count {
-            places.push(Place { entry, at })?;
-            settled.push(false)?;
+            self.places.push(Place { entry, at })?;
+            self.settled.push(false)?;
         }
-        Ok(Outbox {
-            places,
-            settled,
-            next,
-        })
+        Ok(())
     }
 
     /// How many messages there are.

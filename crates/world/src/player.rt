@@ -28,6 +28,13 @@ use std::marker::Model;
 /// After want of memory a player is gone.
 #[derive(Drop)]
 pub(crate) struct Player {
+    /// In a box, so that a call that takes the player and gives it back moves one pointer.
+    parts: Box<Parts>,
+}
+
+/// What a player has.
+#[derive(Drop)]
+struct Parts {
     cfg: Config,
     /// The nodes' names in their order.
     order: Vec<NodeId>,
@@ -61,28 +68,30 @@ impl Player {
     {
         let order = nodes_in_order(alloc, cfg)?;
         let nodes = fresh_nodes(alloc, cfg, order.as_slice())?;
-        Ok(Player {
+        let parts = Parts {
             cfg: copy_of(cfg)?,
             order,
             nodes,
             history: History::new(alloc),
             outbox: Outbox::new(alloc),
             turn: 0,
-        })
+        };
+        let parts = Box::new(alloc, parts)?;
+        Ok(Player { parts })
     }
 
     /// How many entries there are.
     pub fn entries(&self) -> usize
         ensures { result ≡ length self.now.past }
     {
-        self.history.len()
+        self.parts.history.len()
     }
 
     /// How many messages were sent.
     pub fn sent(&self) -> usize
         ensures { result ≡ length (sent self.now.past) }
     {
-        self.outbox.len()
+        self.parts.outbox.len()
     }
 
     /// The entries, the oldest first.
@@ -91,7 +100,7 @@ impl Player {
         ensures run { IsRun self.cfg result }
         ensures messages { AreValidMessages (sent (past_of result)) }
     {
-        self.history
+        Box::into_inner(self.parts).history
     }
 
     /// An input is played.
@@ -118,35 +127,23 @@ impl Player {
         requires { CanTake self.cfg self.past node event }
         ensures { IfOk result (λ player. player ≡ happens node event self) }
     {
-        let Player {
-            cfg,
-            order,
-            mut nodes,
-            mut history,
-            outbox,
-            turn,
-        } = self;
-        let place = place_of(&cfg, node);
+        let Player { mut parts } = self;
+        let inside = &mut *parts;
+        let place = place_of(&inside.cfg, node);
         let Step {
             stable: _stable,
             sends,
             marks,
-        } = step_at(&mut nodes, place, alloc, &event)?;
-        let outbox = outbox.push(history.len(), sends.len())?;
-        history.push(HistoryEntry {
+        } = step_at(&mut inside.nodes, place, alloc, &event)?;
+        let number = inside.history.len();
+        inside.outbox.push(number, sends.len())?;
+        inside.history.push(HistoryEntry {
             node,
             event,
             sends,
             marks,
         })?;
-        Ok(Player {
-            cfg,
-            order,
-            nodes,
-            history,
-            outbox,
-            turn,
-        })
+        Ok(Player { parts })
     }
 
     /// A client is given a body.
@@ -179,10 +176,11 @@ impl Player {
         ensures valid { IfOk result IsValidMessage }
         ensures within { IfOk result (λ message. IsNodeOf self.now.cfg message.to) }
     {
-        let Some(place) = self.outbox.place(number) else {
+        let parts = &*self.parts;
+        let Some(place) = parts.outbox.place(number) else {
             unreachable!()
         };
-        let Some(entry) = self.history.get(place.entry as u64) else {
+        let Some(entry) = parts.history.get(place.entry as u64) else {
             unreachable!()
         };
         let Some(message) = entry.sends.get(place.at as u64) else {
@@ -196,7 +194,7 @@ impl Player {
         requires { number < length (sent self.past) }
         ensures { result ≡ settles number self }
     {
-        self.outbox.settle(number);
+        self.parts.outbox.settle(number);
         self
     }
 
@@ -215,8 +213,9 @@ impl Player {
     fn tick_next(self, alloc: Global) -> Result<Player, OutOfMemory>
         ensures { IfOk result (λ player. player ≡ ticks_next self) }
     {
-        let node = self.order[self.turn];
-        let next = (self.turn + 1) % self.order.len();
+        let parts = &*self.parts;
+        let node = parts.order[parts.turn];
+        let next = (parts.turn + 1) % parts.order.len();
         self.turn_to(next).happen(alloc, node, Event::Tick)
     }
 
@@ -225,7 +224,7 @@ impl Player {
         requires { turn < length (nodes_of self.cfg) }
         ensures { result ≡ record self { turn = turn } }
     {
-        self.turn = turn;
+        self.parts.turn = turn;
         self
     }
 
@@ -233,7 +232,7 @@ impl Player {
     fn drain_once(mut self, alloc: Global) -> Result<Player, OutOfMemory>
         ensures { IfOk result (λ player. player ≡ drains_once self) }
     {
-        match self.outbox.next_open() {
+        match self.parts.outbox.next_open() {
             Some(number) => self.deliver(alloc, number),
             None => self.tick_next(alloc),
         }
