@@ -1,4 +1,5 @@
 pub mod Keyed
+pub mod Numbers
 pub mod Seen
 pub mod Voids
 pub mod Tellings

@@ -6,7 +6,7 @@ use Rattle.report_text.specs.Consuming.{Consumed}
 abbrev pub consumed_of : Inside → Consumed
 consumed_of c = record {
   marks = map (λ m. m.now) c.marks.items;
-  applied_at = c.applied_at.entries;
+  applied_at = c.applied_at;
   confirmed = c.confirmed;
   early = c.early;
   log = map (λ r. r.now) c.log.items;

@@ -9,5 +9,6 @@ pub mod Telling
 pub mod Confirming
 pub mod Consuming
 pub mod Insides
+pub mod Numbers
 pub mod Submitting
 pub mod Gathering

@@ -3,12 +3,12 @@
 ghost use Rattle.std.specs.Prelude.{◌≡◌, ◌+◌, ◌-◌, ◌++◌, map, take, length, OnOk};
 ghost use Rattle.report_text.specs.Consuming.{nothing_consumed, is_applied_before, with_own_mark, with_own_marks, consumed_lines};
 
+use crate::by_number::ByNumber;
 use crate::consumer_lines::{Counts, put_counts, put_notices, put_output, put_state, shown_after};
 use msg_wire::{Config, Mark, Marks};
 use quota_table::{Bytes, OutOfMemory};
 use record_codec::Record;
 use std::alloc::Global;
-use std::collections::BTreeMap;
 use std::marker::Model;
 
 /// What one consumer showed, over all its restarts.
@@ -17,7 +17,7 @@ pub struct ConsumerMarks<'a> {
     /// Its marks, in order.
     marks: Vec<&'a Mark>,
     /// The place among them of the last Apply of each position that was applied.
-    applied_at: BTreeMap<u64, usize>,
+    applied_at: ByNumber<usize>,
     /// How many positions it confirmed.
     confirmed: usize,
     /// How many of these it had last applied in an earlier entry.
@@ -51,7 +51,7 @@ impl<'a> ConsumerMarks<'a> {
     {
         ConsumerMarks {
             marks: Vec::new(alloc),
-            applied_at: BTreeMap::new(alloc),
+            applied_at: ByNumber::new(alloc),
             confirmed: 0,
             early: 0,
             log: Vec::new(alloc),
@@ -80,7 +80,7 @@ impl<'a> ConsumerMarks<'a> {
         self.marks.push(mark)?;
         match mark {
             Mark::Apply { position, rec } => {
-                self.applied_at.insert(*position, place)?;
+                self.applied_at.put(*position, place)?;
                 self.log.push(rec)?;
             }
             Mark::Undo { first } => self.undone += cut(&mut self.log, *first),
@@ -101,8 +101,8 @@ impl<'a> ConsumerMarks<'a> {
     fn is_applied_before(&self, start: usize, position: u64) -> bool
         ensures { result ≡ is_applied_before self.now start position }
     {
-        match self.applied_at.get(&position) {
-            Some(at) => *at < start,
+        match self.applied_at.get(position) {
+            Some(at) => at < start,
             None => false,
         }
     }

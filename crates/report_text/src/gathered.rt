@@ -109,10 +109,10 @@ impl<'a> Gathered<'a> {
     {
         put_head(text, entries)?;
         self.told.write(alloc, cfg, text)?;
-        self.confirmed.write(text)?;
+        self.confirmed.write(alloc, text)?;
         write_consumers(cfg, self.consumers.as_slice(), text)?;
         write_clients(self.clients.as_slice(), text)?;
-        put_differing(text, self.confirmed.differing())
+        put_differing(text, self.confirmed.differing(alloc)?)
     }
 }
 

@@ -4,6 +4,7 @@
 //! - `specs/Report.antt`: `report_of`, what a report says as a function of a cluster and a history.
 #![tactic(auto)]
 
+mod by_number;
 mod clients;
 mod consumer_lines;
 mod consumers;

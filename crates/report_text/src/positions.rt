@@ -1,17 +1,17 @@
 //! The confirmed log, position by position.
 
-ghost use Rattle.std.specs.Prelude.{◌≡◌, ◌++◌, [], OnOk};
+ghost use Rattle.std.specs.Prelude.{◌≡◌, ◌++◌, [], IfOk, OnOk};
 ghost use Rattle.std.specs.BTreeMap.{insert_entry};
 ghost use Rattle.std.specs.Ordering.{nat_cmp};
 ghost use Rattle.report_text.specs.Positions.{same_record, log_line};
 ghost use Rattle.report_text.specs.Confirming.{with_confirmed, with_marks, confirmed_lines, differing};
 
+use crate::by_number::ByNumber;
 use crate::text::put_counted;
 use msg_wire::{Mark, Marks};
 use quota_table::{Bytes, OutOfMemory};
 use record_codec::Record;
 use std::alloc::Global;
-use std::collections::BTreeMap;
 use std::marker::Model;
 
 /// What was confirmed at a position.
@@ -26,7 +26,7 @@ struct Confirmed<'a> {
 /// What was confirmed, of each position at which a record was.
 #[derive(Drop)]
 pub struct ConfirmedLog<'a> {
-    positions: BTreeMap<u64, Confirmed<'a>>,
+    positions: ByNumber<Confirmed<'a>>,
 }
 
 impl<'a> Model for ConfirmedLog<'a> {
@@ -35,7 +35,7 @@ impl<'a> Model for ConfirmedLog<'a> {
 
     ghost Value = { List (ℕ × (Record × Bool)) };
 
-    ghost view = { λ l. map (λ e. (e.0, (e.1.first.now, e.1.differs))) l.positions.entries };
+    ghost view = { λ l. map (λ e. (e.0, (e.1.first.now, e.1.differs))) l.positions };
 }
 
 impl<'a> ConfirmedLog<'a> {
@@ -44,7 +44,7 @@ impl<'a> ConfirmedLog<'a> {
         ensures { result ≡ [] }
     {
         ConfirmedLog {
-            positions: BTreeMap::new(alloc),
+            positions: ByNumber::new(alloc),
         }
     }
 
@@ -64,7 +64,7 @@ impl<'a> ConfirmedLog<'a> {
     fn take(&mut self, position: u64, rec: &'a Record) -> Result<(), OutOfMemory>
         ensures { OnOk result (self.new ≡ with_confirmed self.old position rec.now) }
     {
-        let Some(known) = self.positions.get(&position) else {
+        let Some(known) = self.positions.get(position) else {
             return self.put(
                 position,
                 Confirmed {
@@ -89,31 +89,30 @@ impl<'a> ConfirmedLog<'a> {
     fn put(&mut self, position: u64, confirmed: Confirmed<'a>) -> Result<(), OutOfMemory>
         ensures { OnOk result (self.new ≡ insert_entry nat_cmp self.old position (confirmed.entry.first.now, confirmed.entry.differs)) }
     {
-        self.positions.insert(position, confirmed)?;
-        Ok(())
+        self.positions.put(position, confirmed)
     }
 
     /// Puts the line of each position at the end, rising.
-    pub fn write(&self, text: &mut Bytes) -> Result<(), OutOfMemory>
+    pub fn write(&self, alloc: Global, text: &mut Bytes) -> Result<(), OutOfMemory>
         ensures { OnOk result (text.new ≡ text.old ++ confirmed_lines self.now) }
     {
-        for (position, confirmed) in &self.positions {
-            put_record(text, *position, confirmed.first)?;
+        let rows = self.positions.rows(alloc)?;
+        for (position, confirmed) in rows {
+            put_record(text, position, confirmed.first)?;
         }
         Ok(())
     }
 
     /// At how many positions two different records were confirmed.
-    pub fn differing(&self) -> usize
-        ensures { result ≡ differing self.now }
+    pub fn differing(&self, alloc: Global) -> Result<usize, OutOfMemory>
+        ensures { IfOk result (λ count. count ≡ differing self.now) }
     {
-        let mut count = 0;
-        for confirmed in self.positions.values() {
-            if confirmed.differs {
-                count += 1;
-            }
-        }
-        count
+        let rows = self.positions.rows(alloc)?;
+        Ok(
+            rows.iter()
+                .filter(|(_position, confirmed)| confirmed.differs)
+                .count(),
+        )
     }
 }
 

@@ -9,19 +9,19 @@ ghost use Rattle.node_rules.specs.Nodes.{first_window};
 ghost use Rattle.report_text.specs.Slots.{slot_line, entry_words, row_words};
 ghost use Rattle.report_text.specs.Telling.{with_told, with_messages, IsValidTold, is_void_after, after_told, told_lines, void_words, is_void_effect};
 
+use crate::by_number::ByNumber;
 use crate::text::put_counted;
 use cut_core::{Agreed, Effect};
 use fix_ante::first;
 use msg_wire::{Config, Messages, What};
 use quota_table::{Bytes, Entry, OutOfMemory, Row};
 use std::alloc::Global;
-use std::collections::BTreeMap;
 use std::marker::Model;
 
 /// The entry that was told first as decided, of each slot that was told.
 #[derive(Drop)]
 pub struct ToldSlots<'a> {
-    entries: BTreeMap<u32, &'a Entry>,
+    entries: ByNumber<&'a Entry>,
 }
 
 impl<'a> Model for ToldSlots<'a> {
@@ -30,7 +30,7 @@ impl<'a> Model for ToldSlots<'a> {
 
     ghost Value = { List (ℕ × Entry) };
 
-    ghost view = { λ t. map (λ e. (e.0, e.1.now)) t.entries.entries };
+    ghost view = { λ t. map (λ e. (e.0, e.1.now)) t.entries };
 }
 
 impl<'a> ToldSlots<'a> {
@@ -39,7 +39,7 @@ impl<'a> ToldSlots<'a> {
         ensures { result ≡ [] }
     {
         ToldSlots {
-            entries: BTreeMap::new(alloc),
+            entries: ByNumber::new(alloc),
         }
     }
 
@@ -59,10 +59,11 @@ impl<'a> ToldSlots<'a> {
     fn take(&mut self, slot: u32, entry: &'a Entry) -> Result<(), OutOfMemory>
         ensures { OnOk result (self.new ≡ with_told self.old slot entry.now) }
     {
-        if !self.entries.contains_key(&slot) {
-            self.entries.insert(slot, entry)?;
+        let slot = u64::from(slot);
+        match self.entries.get(slot) {
+            Some(_) => Ok(()),
+            None => self.entries.put(slot, entry),
         }
-        Ok(())
     }
 
     /// Puts the line of each slot at the end, rising.
@@ -72,9 +73,11 @@ impl<'a> ToldSlots<'a> {
         ensures { OnOk result (text.new ≡ text.old ++ told_lines (agreement_from (first_window cfg.now)) self.now) }
     {
         let mut agreed = Agreed::new(alloc, first(cfg.rounds, &cfg.table))?;
-        for (slot, entry) in &self.entries {
-            let void = is_void(&mut agreed, *slot, entry)?;
-            put_slot(text, *slot, entry, void)?;
+        let rows = self.entries.rows(alloc)?;
+        for (number, entry) in rows {
+            let slot = number as u32;
+            let void = is_void(&mut agreed, slot, entry)?;
+            put_slot(text, slot, entry, void)?;
         }
         Ok(())
     }

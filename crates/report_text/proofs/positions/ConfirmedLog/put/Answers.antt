@@ -1,6 +1,7 @@
+use Rattle.std.proofs.lemmas.Result.{on_ok_weaker}
 use Rattle.report_text.proofs.Seen.{confirmed-put}
 use Rattle.report_text.proofs.positions.ConfirmedLog.put.Goals as goal
 
 pub returns : goal.returns
 returns c =
-    confirmed-put c.self.inside.positions.entries c.insert.new.self.entries c.args.self.now c.args.position c.args.confirmed c.self.view_is c.in_ok-insert.ensures.entries
+    on_ok_weaker c.put.result (confirmed-put c.self.inside.positions c.put.new.self c.args.self.now c.args.position c.args.confirmed c.self.view_is) c.put.ensures
