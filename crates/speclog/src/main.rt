@@ -20,7 +20,7 @@ use std::process::ExitCode;
 use std::rt::Env;
 use std::sync::Wait;
 use std::thread::Threads;
-use std::{env, io};
+use std::{env, io, mem};
 use top::top;
 
 /// Runs the command of the words after the program's name, over standard input and output and a shelf in memory.
@@ -32,7 +32,10 @@ fn main(rt: HostRuntime) -> ExitCode {
     if let Some(fault) = &outcome.fault {
         let _ = eprintln!(rt; "speclog: {fault}");
     }
-    ExitCode::from(outcome.status)
+    let status = outcome.status;
+    // The process ends here: its memory goes back whole, sooner than list by list.
+    mem::forget(outcome);
+    ExitCode::from(status)
 }
 
 fn run<R: AllocGlobal + Env + Input + Print + Threads + Wait + Sync>(

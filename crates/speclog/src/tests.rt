@@ -57,7 +57,18 @@ fn fault_of<R: AllocGlobal + Threads + Wait + Sync>(
     rt: &R,
     text: &[u8],
 ) -> Result<Option<Fault>, Fail> {
-    let played = play(rt, text, 4096, &[], &[])?;
+    fault_in_pieces(rt, text, 4096)
+}
+
+/// The same of a text that is read in pieces of at most `most` bytes.
+fn fault_in_pieces<R: AllocGlobal + Threads + Wait + Sync>(
+    rt: &R,
+    text: &[u8],
+    most: usize,
+) -> Result<Option<Fault>, Fail>
+    requires { 1 ≤ most }
+{
+    let played = play(rt, text, most, &[], &[])?;
     let silent = played.written.is_empty();
     Ok(played.outcome.fault.filter(|_fault| silent))
 }

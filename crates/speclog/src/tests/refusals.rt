@@ -1,6 +1,6 @@
 //! Which line is refused, and why.
 
-use super::{FIRST_RECORD, HEAD, fault_of, joined};
+use super::{FIRST_RECORD, HEAD, fault_in_pieces, fault_of, joined};
 use crate::fault::Fault;
 use quota_table::{Bytes, TableError};
 use script_text::ScriptKind;
@@ -184,7 +184,13 @@ fn refuses_what_is_cut_short(rt: HostRuntime) -> Result<(), Fail> {
     assert_eq!(rt; text.len(), 88);
     for len in 0..=text.len() {
         let (short, _) = text.split_at(len);
-        assert_eq!(rt; fault_of(&rt, short)?, fault_of_cut(len), "cut at {len}");
+        let fault = fault_of_cut(len);
+        assert_eq!(rt; fault_of(&rt, short)?, fault, "cut at {len}");
+        assert_eq!(rt;
+            fault_in_pieces(&rt, short, 1)?,
+            fault,
+            "cut at {len}, byte by byte"
+        );
     }
     Ok(())
 }
