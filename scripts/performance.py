@@ -4,7 +4,7 @@
     scripts/performance.py PROGRAM [FOLDER]
 
 PROGRAM is crates/speclog/out/speclog after a build; the scripts are left in FOLDER where one is named. A time is the least
-of seven runs, memory the greatest resident size of one run.
+of 21 runs, memory the greatest resident size of one run.
 """
 import os
 import subprocess
@@ -12,7 +12,7 @@ import sys
 import tempfile
 import time
 
-RUNS = 7
+RUNS = 21
 LARGEST = ["belfast 1", "seqs 5", "shards 6", "window 16 0:4 1:4 2:4 3:4 4:4 5:4", "clients 0 1 2 3 4 5", "consumers 4 tally"]
 PLENTY = 400  # ticks and deliveries after each round of submissions: more than a round needs
 
