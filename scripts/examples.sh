@@ -1,14 +1,16 @@
 #!/usr/bin/env bash
-# Plays each script of examples/ with ./speclog and compares what it writes, its errors and its status.
+# Plays each script of a folder with ./speclog and compares what it writes, its errors and its status. The folder is the first
+# argument, or else examples/.
 #   NAME.script with NAME.report   status 0, the report on standard output
 #   NAME.script with NAME.error    a refusal: nothing on standard output, that line on standard error;
 #                                  NAME.status has the status
 cd "$(dirname "$0")/.." || exit 1
+folder=${1:-examples}
 passed=0
 failed=0
 out=$(mktemp) err=$(mktemp)
 trap 'rm -f "$out" "$err"' EXIT
-for script in examples/*.script; do
+for script in "$folder"/*.script; do
   [ -e "$script" ] || continue
   name=${script%.script}
   ./speclog play <"$script" >"$out" 2>"$err"
@@ -25,5 +27,5 @@ for script in examples/*.script; do
     echo "$name: not as it should be (status $status)"
   fi
 done
-echo "examples: $passed passed, $failed failed"
+echo "$folder: $passed passed, $failed failed"
 [ $failed -eq 0 ]
