@@ -17,7 +17,10 @@ pub const MOST_ROWS: usize = 6;
 /// Contracts see it as that list (`IsTable`).
 #[derive(Debug, Drop)]
 pub struct Table {
-    rows: ArrayVec<Row, 6>,
+    /// The rows, and then places that no contract sees.
+    places: [Row; MOST_ROWS],
+    /// How many rows there are.
+    len: u8,
 }
 
 impl Model for Table {
@@ -26,20 +29,19 @@ impl Model for Table {
 
     ghost Value = { List Row };
 
+    ghost use Rattle.std.specs.Prelude.{◌≤◌, take};
     ghost use Rattle.quota_table.specs.Rows.{IsTable};
 
-    ghost view = { λ t. t.rows.items };
+    ghost view = { λ t. take t.len t.places };
 
-    ghost invariant = { λ t. IsTable t.rows.items };
+    ghost invariant = { λ t. (t.len ≤ 6) × IsTable (take t.len t.places) };
 }
 
 impl Clone for Table {
     ghost is_clone = { λ a b. b ≡ a };
 
     fn clone(&self) -> Result<Table, AllocError> {
-        Ok(Table {
-            rows: copied(&self.rows),
-        })
+        Ok(self.copy())
     }
 }
 
@@ -52,7 +54,7 @@ impl PartialEq for Table {
     ghost laws = { Prim.search comparing };
 
     fn eq(&self, other: &Table) -> bool {
-        self.rows == other.rows
+        self.rows() == other.rows()
     }
 }
 
@@ -62,7 +64,20 @@ impl Table {
         requires { IsTable rows.items }
         ensures { result ≡ rows.items }
     {
-        Table { rows }
+        Table::of_rows(rows.as_slice())
+    }
+
+    /// The table of a list of rows that is known to be one.
+    fn of_rows(rows: &[Row]) -> Table
+        requires { IsTable rows.now }
+        ensures { result ≡ rows.now }
+    {
+        let mut places = [Row { shard: 0, quota: 0 }; MOST_ROWS];
+        places[..rows.len()].copy_from_slice(rows);
+        Table {
+            places,
+            len: rows.len() as u8,
+        }
     }
 
     /// The rows, in order.
@@ -70,7 +85,7 @@ impl Table {
         ensures rows { result.now ≡ self.now }
         ensures valid { IsTable self.now }
     {
-        self.rows.as_slice()
+        &self.places[..usize::from(self.len)]
     }
 
     /// A copy, which takes no memory.
@@ -78,18 +93,10 @@ impl Table {
         ensures { result ≡ self.now }
     {
         Table {
-            rows: copied(&self.rows),
+            places: self.places,
+            len: self.len,
         }
     }
-}
-
-fn copied(rows: &ArrayVec<Row, 6>) -> ArrayVec<Row, 6>
-    ensures { result.items ≡ rows.now.items }
-{
-    let Ok(copy) = ArrayVec::try_from(rows.as_slice()) else {
-        unreachable!()
-    };
-    copy
 }
 
 /// The table of these rows, or the first fault in them: no row, more than six, and then row by row a shard above 5,
@@ -109,7 +116,7 @@ pub fn check(rows: &[Asked]) -> Result<Table, TableError>
     for (i, asked) in rows.iter().enumerate() {
         kept.push(checked(&rows[..i], asked)?);
     }
-    Ok(Table { rows: kept })
+    Ok(Table::of(kept))
 }
 
 /// One row, judged against the rows before it.

@@ -1,5 +1,6 @@
 use crate::{Asked, Bytes, Entry, Listed, Row, Table, TableError, check, offset, sum};
 use std::alloc::Global;
+use std::mem::size_of;
 use std::test::Fail;
 
 fn asked(alloc: Global, rows: &[(u8, u32)]) -> Result<Vec<Asked>, Fail> {
@@ -80,10 +81,13 @@ fn bytes_and_lists_grow_at_their_end(rt: HostRuntime) -> Result<(), Fail> {
     let mut entries = Listed::new(rt.alloc());
     assert!(rt; entries.is_empty());
     entries.push(Entry::Nothing)?;
-    entries.push(Entry::Cut {
+    let mut later = Listed::with_capacity(rt.alloc(), 1)?;
+    later.push(Entry::Cut {
         window: 0,
         round: 1,
     })?;
+    entries.append(&mut later)?;
+    assert!(rt; later.is_empty());
     assert_eq!(rt; entries.len(), 2);
     assert!(rt;
         entries.get(1)
@@ -94,5 +98,18 @@ fn bytes_and_lists_grow_at_their_end(rt: HostRuntime) -> Result<(), Fail> {
     );
     assert!(rt; entries.get(2).is_none());
     assert!(rt; entries.clone()? == entries);
+    entries.truncate(1);
+    assert_eq!(rt; entries.len(), 1);
+    entries.clear();
+    entries.reserve(2)?;
+    assert!(rt; entries.is_empty());
+    bytes.clear();
+    assert!(rt; bytes == Bytes::with_capacity(rt.alloc(), 3)?);
     Ok(())
+}
+
+#[test]
+fn values_are_small(rt: HostRuntime) {
+    assert_eq!(rt; size_of::<Table>(), 13);
+    assert_eq!(rt; size_of::<Entry>(), 24);
 }
