@@ -1,3 +1,4 @@
+-- What a source in memory gives, and what is left in it.
 use Rattle.std.proofs.Common.{◌≡◌, ℕ, ◌+◌, List, ◌++◌, take, drop, sym, ap, ◌∙◌, take-append-drop}
 use Rattle.std.proofs.lemmas.List.{drop-drop}
 

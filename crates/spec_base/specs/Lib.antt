@@ -1,5 +1,6 @@
 pub mod Spelling
 pub mod Faults
+pub mod Adapter
 pub mod Plan
 pub mod Memory
 pub mod Disk

@@ -1,5 +1,5 @@
 -- A disk in memory: the calls that changed it tell its bytes and what a crash may leave of them.
-use Rattle.std.specs.Prelude.{◌≡◌, ◌⊎◌, ℕ, ◌+◌, ◌-◌, ◌≤◌, List, [], ◌∷◌, ◌++◌, length, take, drop, replicate}
+use Rattle.std.specs.Prelude.{◌≡◌, ◌⊎◌, ℕ, ◌+◌, ◌-◌, ◌≤◌, min, List, [], ◌∷◌, ◌++◌, length, take, drop, replicate}
 use Rattle.spec_base.specs.declared.disk_call.DiskCall.{DiskCall}
 use Rattle.spec_base.specs.declared.disk_call.DiskCall.TheVariants.{Write, Sync}
 use Rattle.spec_base.specs.Plan.{Plan}
@@ -10,6 +10,10 @@ pub record DiskMemory : Type 0 where
   pub calls : List DiskCall
   pub plan : Plan
   pub row : ℕ
+
+-- how many of its last calls failed one after the other
+abbrev pub failures_in_a_row : DiskMemory → ℕ
+failures_in_a_row disk = min disk.row 2
 
 -- the bytes at an offset over the old ones; zeros between the old end and the offset
 abbrev pub overwritten : ℕ → List ℕ → List ℕ → List ℕ

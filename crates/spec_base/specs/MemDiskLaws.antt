@@ -1,5 +1,5 @@
 -- What the definitions of a disk in memory say of one moment.
-use Rattle.std.proofs.Common.{◌≡◌, inl, inr, refl, sym, ap, ◌∙◌, ℕ, ◌+◌, ◌-◌, min, List, [], ◌∷◌, ◌++◌, length, take, drop, replicate, arith, length-append, length-drop, append_assoc}
+use Rattle.std.proofs.Common.{◌≡◌, inl, inr, refl, sym, ap, ◌∙◌, ℕ, ◌+◌, ◌-◌, ◌≤◌, min, List, [], ◌∷◌, ◌++◌, length, take, drop, replicate, arith, length-append, length-drop, append_assoc}
 use Rattle.std.proofs.lemmas.List.{take_at, drop_at, take_all, take_min, length-take, length-replicate}
 use Rattle.spec_base.specs.declared.disk_call.DiskCall.{DiskCall}
 use Rattle.spec_base.specs.declared.disk_call.DiskCall.TheVariants.{Write, Sync}
@@ -44,3 +44,7 @@ pub only_last : (calls : List DiskCall) (c : List ℕ) → WasLeft calls (length
 only_last [] c left = left
 only_last (call ∷ older) c (inl now) = now
 only_last (call ∷ older) c (inr before) = absurd (omega (arith, before.0))
+
+-- failures in a row are told up to 2
+pub at_most_two : (row : ℕ) → min row 2 ≤ 2
+at_most_two row = omega arith

@@ -1,5 +1,5 @@
 -- What a shelf in memory shows of a name.
-use Rattle.std.specs.Prelude.{ℕ, Bool, false, List, Option, None, is_none, map, filter, nat_eq}
+use Rattle.std.specs.Prelude.{ℕ, Bool, false, List, Option, None, is_none, min, map, filter, nat_eq}
 use Rattle.std.specs.Cmp.Lexicographic.{pointwise}
 use Rattle.std.specs.Option.{option_map_or}
 use Rattle.std.specs.BTreeMap.{get_by_text}
@@ -14,8 +14,11 @@ slot_of shelf name = get_by_text shelf.slots name
 abbrev pub faults_of : MemShelf → List ℕ → ℕ
 faults_of shelf name = option_map_or (λ (slot : Slot). slot.faults) (slot_of shelf name) 0
 
+abbrev pub told_row : MemShelf → List ℕ → ℕ
+told_row shelf name = option_map_or (λ (slot : Slot). slot.row) (slot_of shelf name) 0
+
 abbrev pub row_of : MemShelf → List ℕ → ℕ
-row_of shelf name = option_map_or (λ (slot : Slot). slot.row) (slot_of shelf name) 0
+row_of shelf name = min (told_row shelf name) 2
 
 abbrev pub given_of : MemShelf → List ℕ → ℕ
 given_of shelf name = option_map_or (λ (slot : Slot). slot.given) (slot_of shelf name) 0

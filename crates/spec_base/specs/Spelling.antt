@@ -1,3 +1,4 @@
+-- Names of nodes as text.
 use Rattle.std.specs.Prelude.{ℕ, ◌+◌, ◌≤◌, List, [], ◌∷◌, ◌++◌, codes}
 use Rattle.spec_base.specs.declared.node.NodeId.{NodeId}
 use Rattle.spec_base.specs.declared.node.NodeId.TheVariants.{Seq, Shard, Client, Consumer}

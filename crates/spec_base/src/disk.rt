@@ -72,4 +72,7 @@ pub trait Disk {
 
     /// Since this moment there is no other.
     ghost only_now: { (disk : Self) (c : List ℕ) → left_since disk (moment disk) c → may_leave disk c };
+
+    /// No more than 2 failures in a row are told.
+    ghost two_in_a_row: { (disk : Self) → in_a_row disk ≤ 2 };
 }

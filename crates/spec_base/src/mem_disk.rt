@@ -4,9 +4,9 @@ ghost use Rattle.spec_base.specs.Plan.{fresh_plan, fails_next, after_call, is_so
 ghost use Rattle.spec_base.specs.Disk.{GivesPart, Written, Torn, CountsRow};
 ghost use Rattle.spec_base.specs.Crash.{Only, SameOutcomes, NoneNew, Follows, Elapses};
 ghost use Rattle.spec_base.specs.declared.stop.Stop.TheVariants.{Failed};
-ghost use Rattle.spec_base.specs.MemDisk.{overwritten, content_of, IsLeft, WasLeft};
+ghost use Rattle.spec_base.specs.MemDisk.{failures_in_a_row, overwritten, content_of, IsLeft, WasLeft};
 ghost use Rattle.spec_base.specs.declared.disk_call.DiskCall.TheVariants.{Write, Sync};
-ghost use Rattle.spec_base.specs.MemDiskLaws.{content_is_left, now_was_left, only_last};
+ghost use Rattle.spec_base.specs.MemDiskLaws.{content_is_left, now_was_left, only_last, at_most_two};
 
 use crate::copying::copy_front;
 use crate::disk::Disk;
@@ -33,14 +33,14 @@ pub struct MemDisk {
 }
 
 impl Model for MemDisk {
-    ghost use Rattle.std.specs.Prelude.{◌≡◌, reverse};
+    ghost use Rattle.std.specs.Prelude.{◌≡◌, ◌≤◌, reverse};
     ghost use Rattle.spec_base.specs.MemDisk.{DiskMemory, content_of};
 
     ghost Value = { DiskMemory };
 
     ghost view = { λ d. record { calls = reverse d.calls.items; plan = d.plan; row = d.row } };
 
-    ghost invariant = { λ d. d.content.items ≡ content_of (reverse d.calls.items) };
+    ghost invariant = { λ d. (d.content.items ≡ content_of (reverse d.calls.items)) × (d.row ≤ 2) };
 }
 
 impl MemDisk {
@@ -67,7 +67,8 @@ impl MemDisk {
 
     /// How many of its last calls failed one after the other, 0 to 2.
     pub fn failures_in_a_row(&self) -> u8
-        ensures { result ≡ self.now.row }
+        ensures row { result ≡ self.now.row }
+        ensures most { result ≤ 2 }
     {
         self.row
     }
@@ -108,7 +109,7 @@ impl Disk for MemDisk {
 
     ghost faults = { λ d. d.plan.faults };
 
-    ghost in_a_row = { λ d. d.row };
+    ghost in_a_row = { failures_in_a_row };
 
     ghost never_fails = { λ d. is_sound d.plan };
 
@@ -118,6 +119,8 @@ impl Disk for MemDisk {
 
     ghost only_now = { λ d. only_last d.calls };
 
+    ghost two_in_a_row = { λ d. at_most_two d.row };
+
     /// It takes no memory, so it answers as the plan says.
     fn read(&mut self, at: u64, into: &mut [u8]) -> Result<usize, Stop>
         ensures answer { result ≡ (if fails_next self.old.plan then Err Failed
@@ -125,6 +128,7 @@ impl Disk for MemDisk {
         ensures planned { self.new.plan ≡ after_call self.old.plan }
         ensures calls { self.new.calls ≡ self.old.calls }
         ensures untouched { OnErr result (into.new ≡ into.old) }
+        ensures behind { IfOk result (λ n. drop n into.new ≡ drop n into.old) }
         ensures fits { IfOk result (λ n. n ≤ length into.new) }
         ensures given { IfOk result (λ n. GivesPart at n into.new (content_of self.old.calls)) }
         ensures seen { Some (content_of self.new.calls) ≡ Some (content_of self.old.calls) }

@@ -4,6 +4,7 @@ ghost use Rattle.spec_base.specs.Disk.{CountsRow};
 ghost use Rattle.spec_base.specs.Plan.{fresh_plan};
 ghost use Rattle.spec_base.specs.Shelf.{SameBut};
 ghost use Rattle.spec_base.specs.declared.stop.Stop.TheVariants.{OutOfMemory as NoMemory};
+ghost use Rattle.spec_base.specs.MemDisk.{failures_in_a_row};
 ghost use Rattle.spec_base.specs.MemShelf.{calls_for};
 
 use crate::disk::Disk;
@@ -122,7 +123,8 @@ impl Slot {
 impl Shelf for MemShelf {
     type D = MemDisk;
 
-    ghost use Rattle.spec_base.specs.MemShelf.{faults_of, row_of, given_of, is_out_of, kept_of, fails_of, calls_for};
+    ghost use Rattle.spec_base.specs.MemShelf.{faults_of, told_row, row_of, given_of, is_out_of, kept_of, fails_of, calls_for};
+    ghost use Rattle.spec_base.specs.MemDiskLaws.{at_most_two};
 
     ghost faults = { faults_of };
 
@@ -135,6 +137,8 @@ impl Shelf for MemShelf {
     ghost tells = { λ _. true };
 
     ghost kept = { kept_of };
+
+    ghost two_in_a_row = { λ shelf name. at_most_two (told_row shelf name) };
 
     /// It never answers Failed. A new disk is to fail at the calls that the shelf has for its name.
     #[tactic(auto, using(std::proofs::lemmas::Map::Text::text_keys))]
@@ -179,7 +183,7 @@ impl Shelf for MemShelf {
         ensures on_shelf { is_out_of self.new name.now ≡ false }
         ensures kept { kept_of self.new name.now ≡ Some disk }
         ensures count { faults_of self.new name.now ≡ min (faults_of self.old name.now + (disk.plan.faults - given_of self.old name.now)) (2 ^ 64 - 1) }
-        ensures row { row_of self.new name.now ≡ disk.row }
+        ensures row { row_of self.new name.now ≡ failures_in_a_row disk }
         ensures other_faults { SameBut name.now (faults_of self.old) (faults_of self.new) }
         ensures other_rows { SameBut name.now (row_of self.old) (row_of self.new) }
         ensures other_out { SameBut name.now (is_out_of self.old) (is_out_of self.new) }

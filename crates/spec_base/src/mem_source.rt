@@ -68,6 +68,7 @@ impl Source for MemSource {
         ensures planned { self.new.plan ≡ after_call self.old.plan }
         ensures most { self.new.most ≡ self.old.most }
         ensures untouched { OnErr result (into.new ≡ into.old) }
+        ensures behind { IfOk result (λ n. drop n into.new ≡ drop n into.old) }
         ensures fits { IfOk result (λ n. n ≤ length into.new) }
         ensures given { IfOk result (λ n. Some self.old.left ≡ prepend_known (take n into.new) (Some self.new.left)) }
         ensures end { IfOk result (λ n. n ≡ 0 → 0 < length into.new → IsAtEnd (Some self.new.left)) }

@@ -1,4 +1,4 @@
-ghost use Rattle.std.specs.Prelude.{◌≡◌, ℕ, ◌+◌, ◌-◌, ◌^◌, min, Bool, true, false, List, Option, Some, None, IsTrue, IfOk, OnOk, OnErr};
+ghost use Rattle.std.specs.Prelude.{◌≡◌, ℕ, ◌+◌, ◌-◌, ◌^◌, ◌≤◌, min, Bool, true, false, List, Option, Some, None, IsTrue, IfOk, OnOk, OnErr};
 ghost use Rattle.spec_base.specs.Faults.{CountsFault};
 ghost use Rattle.spec_base.specs.Disk.{CountsRow};
 ghost use Rattle.spec_base.specs.Shelf.{SameBut, GivesKept};
@@ -60,4 +60,7 @@ pub trait Shelf {
         ensures other_out { SameBut name.now (is_out self.old) (is_out self.new) }
         ensures other_given { SameBut name.now (given self.old) (given self.new) }
         ensures other_kept { SameBut name.now (kept self.old) (kept self.new) };
+
+    /// No more than 2 failures in a row are told of a name.
+    ghost two_in_a_row: { (shelf : Self) (name : List ℕ) → in_a_row shelf name ≤ 2 };
 }

@@ -1,11 +1,13 @@
-ghost use Rattle.std.specs.Prelude.{◌≡◌, None, false};
+ghost use Rattle.std.specs.Prelude.{◌≡◌, ◌<◌, ◌≤◌, None, false, length, IfOk};
+ghost use Rattle.std.specs.Io.KnownBytes.{WriteAppends};
+ghost use Rattle.spec_base.specs.Faults.{CountsFault};
 
 use crate::sink::Sink;
 use crate::stop::Stop;
 use std::io::Write;
 use std::marker::Model;
 
-/// A sink over a writer of std. It can't tell what was taken. Contracts see it as its count of errors.
+/// A sink over a writer of std. It can't tell what was taken. Contracts see it as the writer and its count of errors.
 ///
 /// Nothing flushes the writer: give one that keeps no bytes back, as standard output.
 #[derive(Drop)]
@@ -15,17 +17,17 @@ pub struct StdSink<W> {
 }
 
 impl<W> Model for StdSink<W> {
-    ghost use Rattle.std.specs.Prelude.{ℕ};
+    ghost use Rattle.spec_base.specs.Adapter.{Adapter};
 
-    ghost Value = { ℕ };
+    ghost Value = { Adapter W };
 
-    ghost view = { λ s. s.faults };
+    ghost view = { λ s. record { inner = s.writer; faults = s.faults } };
 }
 
 impl<W> StdSink<W> {
     /// The writer, with no fault yet.
     pub fn new(writer: W) -> StdSink<W>
-        ensures { result ≡ 0 }
+        ensures { result ≡ record { inner = writer; faults = 0 } }
     {
         StdSink { writer, faults: 0 }
     }
@@ -34,12 +36,17 @@ impl<W> StdSink<W> {
 impl<W: Write> Sink for StdSink<W> {
     ghost taken = { λ _. None };
 
-    ghost faults = { λ s. s };
+    ghost faults = { λ s. s.faults };
 
     ghost never_fails = { λ _. false };
 
     /// One write of the writer. Each of its errors is a fault, and so is an answer of 0 for a piece that isn't empty.
-    fn write(&mut self, piece: &[u8]) -> Result<usize, Stop> {
+    fn write(&mut self, piece: &[u8]) -> Result<usize, Stop>
+        ensures bytes { WriteAppends (W.contents self.old.inner) (W.contents self.new.inner) result piece.now }
+        ensures fits { IfOk result (λ n. n ≤ length piece.now) }
+        ensures some { IfOk result (λ n. 0 < length piece.now → 0 < n) }
+        ensures count { CountsFault self.old.faults self.new.faults result }
+    {
         match self.writer.write(piece) {
             Ok(count) if count > 0 || piece.is_empty() => Ok(count),
             _ => {

@@ -1,11 +1,13 @@
-ghost use Rattle.std.specs.Prelude.{◌≡◌, None, false};
+ghost use Rattle.std.specs.Prelude.{◌≡◌, ◌≤◌, None, false, length, IfOk};
+ghost use Rattle.std.specs.Io.KnownBytes.{ReadConsumes};
+ghost use Rattle.spec_base.specs.Faults.{CountsFault};
 
 use crate::source::Source;
 use crate::stop::Stop;
 use std::io::Read;
 use std::marker::Model;
 
-/// A source over a reader of std. It can't tell what is left. Contracts see it as its count of errors.
+/// A source over a reader of std. It can't tell what is left. Contracts see it as the reader and its count of errors.
 #[derive(Drop)]
 pub struct StdSource<R> {
     reader: R,
@@ -13,17 +15,17 @@ pub struct StdSource<R> {
 }
 
 impl<R> Model for StdSource<R> {
-    ghost use Rattle.std.specs.Prelude.{ℕ};
+    ghost use Rattle.spec_base.specs.Adapter.{Adapter};
 
-    ghost Value = { ℕ };
+    ghost Value = { Adapter R };
 
-    ghost view = { λ s. s.faults };
+    ghost view = { λ s. record { inner = s.reader; faults = s.faults } };
 }
 
 impl<R> StdSource<R> {
     /// The reader, with no fault yet.
     pub fn new(reader: R) -> StdSource<R>
-        ensures { result ≡ 0 }
+        ensures { result ≡ record { inner = reader; faults = 0 } }
     {
         StdSource { reader, faults: 0 }
     }
@@ -32,12 +34,16 @@ impl<R> StdSource<R> {
 impl<R: Read> Source for StdSource<R> {
     ghost left = { λ _. None };
 
-    ghost faults = { λ s. s };
+    ghost faults = { λ s. s.faults };
 
     ghost never_fails = { λ _. false };
 
     /// One read of the reader. Each of its errors is a fault, an interruption too.
-    fn read(&mut self, into: &mut [u8]) -> Result<usize, Stop> {
+    fn read(&mut self, into: &mut [u8]) -> Result<usize, Stop>
+        ensures bytes { ReadConsumes (R.remaining self.old.inner) (R.remaining self.new.inner) result into.new }
+        ensures fits { IfOk result (λ n. n ≤ length into.new) }
+        ensures count { CountsFault self.old.faults self.new.faults result }
+    {
         match self.reader.read(into) {
             Ok(count) => Ok(count),
             Err(_) => {

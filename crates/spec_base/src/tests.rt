@@ -1,6 +1,7 @@
-ghost use Rattle.std.specs.Prelude.{◌≡◌, ◌≤◌, ◌<◌, ◌+◌, length, take, drop, OnOk, OnErr, IfOk, IsErrOf, IsTrue};
+ghost use Rattle.std.specs.Prelude.{ℕ, List, false, ◌≡◌, ◌≤◌, ◌<◌, ◌+◌, length, take, drop, OnOk, OnErr, IfOk, IsErrOf, IsTrue};
 ghost use Rattle.std.specs.Io.KnownBytes.{prepend_known, append_known, IsAtEnd};
 ghost use Rattle.spec_base.specs.Faults.{Rose};
+ghost use Rattle.spec_base.specs.MemShelf.{is_out_of};
 ghost use Rattle.spec_base.specs.declared.stop.Stop.TheVariants.{Failed};
 
 use crate::{
@@ -50,41 +51,53 @@ fn write_all<S: Sink>(sink: &mut S, text: &[u8]) -> Result<(), Stop>
     Ok(())
 }
 
-/// A source that gives pieces of 3, with one failing call, gives the rest after it.
+/// Whether reading to the end gives these bytes, or a failure where none are given.
+fn reads<S: Source>(alloc: Global, source: &mut S, limit: usize, want: Option<&[u8]>) -> bool {
+    match read_all(alloc, source, limit) {
+        Ok(bytes) => Some(bytes.as_slice()) == want,
+        Err(stop) => stop == Stop::Failed && want.is_none(),
+    }
+}
+
+/// Pieces of a source that has `belfast`, its calls that fail, a limit, and what two readings to the end give.
+type Reading<'a> = (usize, &'a [u64], usize, Option<&'a [u8]>, Option<&'a [u8]>);
+
+const READINGS: [Reading; 5] = [
+    (3, &[], 100, Some(b"belfast"), Some(b"")),
+    (3, &[], 5, Some(b"belfas"), Some(b"t")),
+    (3, &[1], 100, None, Some(b"fast")),
+    (3, &[1, 4], 100, None, None),
+    (9, &[1], 100, None, Some(b"ast")),
+];
+
 #[test]
 fn sources_in_memory(rt: HostRuntime) -> Result<(), Fail> {
-    let alloc = rt.alloc();
-    let mut whole = MemSource::new(alloc, b"belfast", 3, &[])?;
-    assert_eq!(rt;
-        read_all(alloc, &mut whole, 100)?.as_slice(),
-        b"belfast".as_slice()
-    );
-    let mut part = MemSource::new(alloc, b"belfast", 3, &[])?;
-    assert_eq!(rt;
-        read_all(alloc, &mut part, 5)?.as_slice(),
-        b"belfas".as_slice()
-    );
-    let mut failing = MemSource::new(alloc, b"belfast", 3, &[1, 4])?;
-    let mut piece = [0; 2];
-    assert_eq!(rt; failing.read(&mut piece), Ok(2));
-    assert_eq!(rt; failing.read(&mut piece), Err(Stop::Failed));
-    assert_eq!(rt; read_all(alloc, &mut failing, 100), Err(Stop::Failed));
-    assert_eq!(rt; failing.read(&mut piece), Ok(0));
+    for (most, fails, limit, first, second) in READINGS {
+        let mut source = MemSource::new(rt.alloc(), b"belfast", most, fails)?;
+        let is_first = reads(rt.alloc(), &mut source, limit, first);
+        let is_second = reads(rt.alloc(), &mut source, limit, second);
+        assert!(rt;
+            is_first && is_second,
+            "pieces of {most}, failures at {fails:?}"
+        );
+    }
     Ok(())
 }
 
-/// A sink of `most` 4 whose second call fails has taken the first 4 bytes.
+/// A sink by pieces of 4, of which these calls fail: what it has taken of a text, and that it takes the rest.
+fn takes(alloc: Global, fails: &[u64], taken: &[u8], rest: &[u8]) -> Result<bool, Fail> {
+    let mut sink = MemSink::new(alloc, 4, fails)?;
+    let is_whole = write_all(&mut sink, b"belfast") == Ok(());
+    let has_taken = sink.taken() == taken;
+    let takes_rest = write_all(&mut sink, rest) == Ok(());
+    let has_all = sink.taken() == b"belfast".as_slice();
+    Ok(is_whole == fails.is_empty() && has_taken && takes_rest && has_all)
+}
+
 #[test]
 fn sinks_in_memory(rt: HostRuntime) -> Result<(), Fail> {
-    let alloc = rt.alloc();
-    let mut whole = MemSink::new(alloc, 4, &[])?;
-    assert_eq!(rt; write_all(&mut whole, b"belfast"), Ok(()));
-    assert_eq!(rt; whole.taken(), b"belfast".as_slice());
-    let mut failing = MemSink::new(alloc, 4, &[1])?;
-    assert_eq!(rt; write_all(&mut failing, b"belfast"), Err(Stop::Failed));
-    assert_eq!(rt; failing.taken(), b"belf".as_slice());
-    assert_eq!(rt; write_all(&mut failing, b"ast"), Ok(()));
-    assert_eq!(rt; failing.taken(), b"belfast".as_slice());
+    assert!(rt; takes(rt.alloc(), &[], b"belfast", b"")?);
+    assert!(rt; takes(rt.alloc(), &[1], b"belf", b"ast")?);
     Ok(())
 }
 
@@ -120,68 +133,96 @@ impl Write for Broken {
 }
 
 #[test]
-fn sources_and_sinks_over_std(rt: HostRuntime) -> Result<(), Fail> {
+fn sources_over_std(rt: HostRuntime) {
     let alloc = rt.alloc();
-    let mut source = StdSource::new(b"belfast".as_slice());
-    assert_eq!(rt;
-        read_all(alloc, &mut source, 100)?.as_slice(),
-        b"belfast".as_slice()
-    );
-    assert_eq!(rt;
-        read_all(alloc, &mut StdSource::new(Broken(2)), 100),
-        Err(Stop::Failed)
-    );
-    assert_eq!(rt;
-        read_all(alloc, &mut StdSource::new(Broken(2)), 2)?.as_slice(),
-        [2, 1].as_slice()
-    );
+    let mut whole = StdSource::new(b"belfast".as_slice());
+    assert!(rt; reads(alloc, &mut whole, 100, Some(b"belfast")));
+    assert!(rt; reads(alloc, &mut StdSource::new(Broken(2)), 100, None));
+    assert!(rt; reads(alloc, &mut StdSource::new(Broken(2)), 2, Some(&[2, 1])));
+}
+
+#[test]
+fn sinks_over_std(rt: HostRuntime) {
     assert_eq!(rt; write_all(&mut StdSink::new(Broken(2)), b"ab"), Ok(()));
     assert_eq!(rt;
         write_all(&mut StdSink::new(Broken(2)), b"abc"),
         Err(Stop::Failed)
     );
     assert_eq!(rt; StdSink::new(Broken(2)).write(b""), Ok(0));
-    Ok(())
+}
+
+/// A call of a disk.
+#[derive(Clone, Copy)]
+enum Call {
+    /// Of at most 8 bytes from this place on.
+    Read(u64),
+    Write(u64, &'static [u8]),
+    Sync,
+}
+
+/// Whether the call gives these bytes, none where it reads none, or fails where none are given.
+fn answers(disk: &mut MemDisk, call: Call, want: Option<&[u8]>) -> bool {
+    let mut piece = [0; 8];
+    let found = match call {
+        Call::Read(at) => disk.read(at, &mut piece),
+        Call::Write(at, bytes) => disk.write_at(at, bytes).map(|_written| 0),
+        Call::Sync => disk.sync().map(|_synced| 0),
+    };
+    match found {
+        Ok(count) => want == Some(&piece[..count.min(8)]),
+        Err(stop) => stop == Stop::Failed && want.is_none(),
+    }
 }
 
 /// Writes over what is there and past the end; the third call fails.
+const CALLS: [(Call, Option<&[u8]>); 6] = [
+    (Call::Write(0, b"belfast"), Some(b"")),
+    (Call::Write(2, b"LL"), Some(b"")),
+    (Call::Write(2, b"xx"), None),
+    (Call::Sync, Some(b"")),
+    (Call::Read(1), Some(b"eLLast")),
+    (Call::Read(7), Some(b"")),
+];
+
 #[test]
 fn disks_in_memory(rt: HostRuntime) -> Result<(), Fail> {
     let mut disk = MemDisk::new(rt.alloc(), &[2])?;
-    let mut piece = [9; 8];
-    assert_eq!(rt; disk.write_at(0, b"belfast"), Ok(()));
-    assert_eq!(rt; disk.write_at(2, b"LL"), Ok(()));
-    assert_eq!(rt; disk.write_at(2, b"xx"), Err(Stop::Failed));
-    assert_eq!(rt; disk.sync(), Ok(()));
-    assert_eq!(rt; disk.read(1, &mut piece), Ok(6));
-    assert_eq!(rt; piece.as_slice(), b"eLLast\x09\x09".as_slice());
-    assert_eq!(rt; disk.read(7, &mut piece), Ok(0));
+    for (call, want) in CALLS {
+        assert!(rt; answers(&mut disk, call, want));
+    }
     assert_eq!(rt; disk.fault_count(), 1);
     Ok(())
+}
+
+/// A shelf whose disk `q0` fails at its second call.
+fn shelf(alloc: Global) -> Result<MemShelf, Fail>
+    ensures { IfOk result (λ shelf. (name : List ℕ) → is_out_of shelf name ≡ false) }
+{
+    let name = Bytes::from_slice(alloc, b"q0")?;
+    Ok(MemShelf::new(alloc, &[DiskFail { name, call: 1 }])?)
 }
 
 /// A disk that comes back is given again, and its failing calls count over both times.
 #[test]
 fn shelves_in_memory(rt: HostRuntime) -> Result<(), Fail> {
-    let alloc = rt.alloc();
-    let fail = DiskFail {
-        name: Bytes::from_slice(alloc, b"q0")?,
-        call: 1,
-    };
-    let fails = [fail];
-    let mut shelf = MemShelf::new(alloc, &fails)?;
+    let mut shelf = shelf(rt.alloc())?;
     let mut first = shelf.disk("q0")?;
-    assert_eq!(rt; first.write_at(0, b"ab"), Ok(()));
+    assert!(rt; answers(&mut first, Call::Write(0, b"ab"), Some(b"")));
     shelf.back("q0", first);
     let mut again = shelf.disk("q0")?;
-    let mut piece = [0; 2];
-    assert_eq!(rt; again.read(0, &mut piece), Err(Stop::Failed));
-    assert_eq!(rt; again.read(0, &mut piece), Ok(2));
-    assert_eq!(rt; piece.as_slice(), b"ab".as_slice());
-    let mut other = shelf.disk("s0p")?;
-    assert_eq!(rt; other.sync(), Ok(()));
-    assert_eq!(rt; other.sync(), Ok(()));
-    assert_eq!(rt; other.read(0, &mut piece), Ok(0));
+    for want in [None, Some(b"ab".as_slice())] {
+        assert!(rt; answers(&mut again, Call::Read(0), want));
+    }
     shelf.back("q0", again);
+    Ok(())
+}
+
+#[test]
+fn other_disks_of_a_shelf(rt: HostRuntime) -> Result<(), Fail> {
+    let mut shelf = shelf(rt.alloc())?;
+    let mut other = shelf.disk("s0p")?;
+    for call in [Call::Sync, Call::Sync, Call::Read(0)] {
+        assert!(rt; answers(&mut other, call, Some(b"")));
+    }
     Ok(())
 }
