@@ -1,3 +1,4 @@
+pub mod Kept
 pub mod Fields
 pub mod Records
 pub mod Entries

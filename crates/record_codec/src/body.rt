@@ -1,18 +1,21 @@
 ghost use Rattle.std.specs.Prelude.{◌≡◌, ◌<◌, ◌≤◌, ◌↔◌, ◌⊎◌, length, IfErr, IfOk, IsErrOf};
 ghost use Rattle.record_codec.specs.declared.body.TheConstants.{MOST_BODY};
+ghost use Rattle.record_codec.specs.declared.shared.TheConstants.{IN_PLACE};
 
 use crate::errors::BodyError;
-use quota_table::{Bytes, OutOfMemory};
+use crate::shared::SharedBytes;
+use quota_table::OutOfMemory;
 use std::alloc::{AllocError, Global};
 use std::marker::Model;
 
 /// The greatest length of a body, in bytes.
 pub const MOST_BODY: usize = 1024;
 
-/// What a client submits: at most 1,024 bytes. Contracts see it as that list.
+/// What a client submits: at most 1,024 bytes. Contracts see it as that list. A clone takes no memory: up to [`IN_PLACE`]
+/// bytes stand in the value itself, and longer bodies share theirs.
 #[derive(Debug, Drop)]
 pub struct Body {
-    bytes: Bytes,
+    bytes: SharedBytes,
 }
 
 impl Model for Body {
@@ -27,6 +30,8 @@ impl Model for Body {
 
 impl Clone for Body {
     ghost is_clone = { λ a b. b ≡ a };
+
+    ghost is_infallible = { λ a. length a ≤ IN_PLACE };
 
     fn clone(&self) -> Result<Body, AllocError> {
         Ok(Body {
@@ -69,7 +74,7 @@ impl Body {
         ensures { IfOk result (λ body. body ≡ bytes.now) }
     {
         Ok(Body {
-            bytes: Bytes::from_slice(alloc, bytes)?,
+            bytes: SharedBytes::from_slice(alloc, bytes)?,
         })
     }
 

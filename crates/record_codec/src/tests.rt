@@ -1,5 +1,6 @@
 use super::*;
 use quota_table::Bytes;
+use std::mem::size_of;
 use std::test::*;
 
 /// Client 0, number 0, the body `5`.
@@ -73,4 +74,27 @@ fn faults_are_named_from_the_left(rt: HostRuntime) {
     for (bytes, fault) in cases {
         assert_eq!(rt; decode(rt.alloc(), bytes).err(), Some(fault));
     }
+}
+
+fn goes_between_threads<T: Send + Sync + Drop>(_value: T) {}
+
+#[test]
+fn clones_have_the_same_bytes(rt: HostRuntime) -> Result<(), Fail> {
+    let text = [7; MOST_BODY];
+    for len in [0, 1, IN_PLACE, IN_PLACE + 1, MOST_BODY] {
+        let body = Body::of(rt.alloc(), &text[..len])?;
+        let copy = body.clone()?;
+        assert!(rt; copy == body);
+        drop(body);
+        assert_eq!(rt; copy.as_slice(), &text[..len]);
+        assert_eq!(rt; copy.len(), len);
+        goes_between_threads(copy);
+    }
+    Ok(())
+}
+
+#[test]
+fn values_are_small(rt: HostRuntime) {
+    assert_eq!(rt; size_of::<Body>(), 16);
+    assert_eq!(rt; size_of::<Record>(), 32);
 }
