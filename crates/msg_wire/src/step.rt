@@ -1,6 +1,9 @@
+ghost use Rattle.std.specs.Prelude.{◌≡◌, []};
+
 use crate::item::Items;
 use crate::mark::Marks;
 use crate::message::Messages;
+use std::alloc::Global;
 
 /// What one step of a node gives.
 #[derive(Clone, Debug, Drop, PartialEq)]
@@ -11,4 +14,30 @@ pub struct Step {
     pub sends: Messages,
     /// What is shown, in this order.
     pub marks: Marks,
+}
+
+impl Step {
+    /// Nothing to store, to send or to show. It takes no memory.
+    pub fn new(alloc: Global) -> Step
+        ensures stable { result.stable ≡ [] }
+        ensures sends { result.sends ≡ [] }
+        ensures marks { result.marks ≡ [] }
+    {
+        Step {
+            stable: Items::new(alloc),
+            sends: Messages::new(alloc),
+            marks: Marks::new(alloc),
+        }
+    }
+
+    /// Drops all that the step gave. The room of the lists is kept, for another step to be written into.
+    pub fn clear(&mut self)
+        ensures stable { self.new.stable ≡ [] }
+        ensures sends { self.new.sends ≡ [] }
+        ensures marks { self.new.marks ≡ [] }
+    {
+        self.stable.clear();
+        self.sends.clear();
+        self.marks.clear();
+    }
 }

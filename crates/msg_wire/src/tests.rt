@@ -3,6 +3,7 @@ use quota_table::{Bytes, OutOfMemory};
 use record_codec::Record;
 use spec_base::{NodeId, Side};
 use std::alloc::Global;
+use std::mem::size_of;
 use std::test::*;
 
 /// The bytes of hexadecimal digits; all else is passed over.
@@ -301,4 +302,27 @@ fn fields_of_items_have_bounds(rt: HostRuntime) {
     for (text, want) in cases {
         assert_eq!(rt; items_fault(rt.alloc(), text), want, "{text}");
     }
+}
+
+#[test]
+fn a_step_is_used_again(rt: HostRuntime) -> Result<(), Fail> {
+    let mut step = Step::new(rt.alloc());
+    step.stable.push(Item::Acked)?;
+    step.marks.push(Mark::Undo { first: 0 })?;
+    step.sends.push(Message {
+        from: NodeId::Client(0),
+        to: NodeId::Seq(0),
+        what: What::Learn { slot: 0 },
+    })?;
+    step.clear();
+    assert_eq!(rt; step, Step::new(rt.alloc()));
+    Ok(())
+}
+
+#[test]
+fn values_are_small(rt: HostRuntime) {
+    assert_eq!(rt; size_of::<What>(), 48);
+    assert_eq!(rt; size_of::<Message>(), 56);
+    assert_eq!(rt; size_of::<Mark>(), 48);
+    assert_eq!(rt; size_of::<Event>(), 64);
 }
