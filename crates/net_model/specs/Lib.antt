@@ -1,3 +1,6 @@
+pub mod Kept
+pub mod Entries
 pub mod Names
 pub mod Pasts
 pub mod Tables
+pub mod Steps

@@ -1,8 +1,9 @@
-ghost use Rattle.std.specs.Prelude.{◌≡◌, true, false, IfOk, OnOk, OnErr};
-ghost use Rattle.msg_wire.specs.Valid.{IsValidConfig, IsNodeOf, IsValidEvent, AreValidItems};
+ghost use Rattle.std.specs.Prelude.{◌≡◌, [], true, false, IfOk, OnOk, OnErr};
+ghost use Rattle.msg_wire.specs.Valid.{IsValidConfig, IsNodeOf, IsValidMessage, IsValidEvent, AreValidItems};
 ghost use Rattle.msg_wire.specs.Steps.{IsValidStep};
+ghost use Rattle.net_model.specs.Names.events;
 
-use msg_wire::{Config, Event, Items, Step};
+use msg_wire::{Config, Event, Items, Message, Step};
 use quota_table::OutOfMemory;
 use spec_base::NodeId;
 use std::alloc::Global;
@@ -61,6 +62,34 @@ pub trait NodeModel: Sized {
         ensures gives { IfOk result (λ out. out ≡ gives self.old event.now) }
         ensures leaves { OnOk result (self.new ≡ leaves self.old event.now) }
         ensures valid { IfOk result IsValidStep }
+        ensures ready { OnOk result (is_spent self.new ≡ false) }
+        ensures spent { OnErr result (is_spent self.new ≡ true) };
+
+    /// The step of an event, written into a step that gives nothing yet, whose room is used again. After want of memory
+    /// what `out` gives is no step.
+    fn step_into(&mut self, alloc: Global, event: &Event, out: &mut Step) -> Result<(), OutOfMemory>
+        requires ready { is_spent self.old ≡ false }
+        requires valid { IsValidEvent event.now }
+        requires empty { out.old ≡ record { stable = []; sends = []; marks = [] } }
+        ensures gives { OnOk result (out.new ≡ gives self.old event.now) }
+        ensures leaves { OnOk result (self.new ≡ leaves self.old event.now) }
+        ensures valid { OnOk result (IsValidStep out.new) }
+        ensures ready { OnOk result (is_spent self.new ≡ false) }
+        ensures spent { OnErr result (is_spent self.new ≡ true) };
+
+    /// The step of a message that comes, as `step_into` makes it of the event; the message is not copied.
+    fn deliver_into(
+        &mut self,
+        alloc: Global,
+        message: &Message,
+        out: &mut Step,
+    ) -> Result<(), OutOfMemory>
+        requires ready { is_spent self.old ≡ false }
+        requires valid { IsValidMessage message.now }
+        requires empty { out.old ≡ record { stable = []; sends = []; marks = [] } }
+        ensures gives { OnOk result (out.new ≡ gives self.old (events.Deliver message.now)) }
+        ensures leaves { OnOk result (self.new ≡ leaves self.old (events.Deliver message.now)) }
+        ensures valid { OnOk result (IsValidStep out.new) }
         ensures ready { OnOk result (is_spent self.new ≡ false) }
         ensures spent { OnErr result (is_spent self.new ≡ true) };
 }

@@ -1,0 +1,98 @@
+-- What is read of the columns: the entry at an index, and all that was sent and shown.
+use Rattle.std.proofs.Common.{◌≡◌, ℕ, zero, suc, List, [], ◌∷◌, ◌++◌, length, drop, refl, sym, ap, subst, ◌∙◌, append_assoc, append-nil, arith, Some, None}
+use Rattle.std.specs.List.{slice_get, slice_range}
+use Rattle.std.specs.Option.{option_map}
+use Rattle.std.proofs.lemmas.List.{reverse-append}
+use Rattle.std.proofs.lemmas.List.Folds.{drop_split}
+use Rattle.net_model.specs.declared.columns.Columns.{Columns}
+use Rattle.net_model.specs.declared.steps.KeptStep.{KeptStep}
+use Rattle.net_model.specs.Names.{Message, Mark, HistoryEntry}
+use Rattle.net_model.specs.Pasts.{Past, past_of, sent, shown}
+use Rattle.net_model.specs.Kept.{entry_in, entries_in, entries_of, sends_before, marks_before, IsStepIn, AreStepsIn, IsWhole}
+
+-- ---- the entry at an index
+
+-- there are as many entries as steps
+length-entries : (c : Columns) (from at : ℕ) (ss : List KeptStep) → length (entries_in c from at ss) ≡ length ss
+length-entries c from at [] = refl
+length-entries c from at (s ∷ ss) = ap suc (length-entries c s.sends_end s.marks_end ss)
+
+pub length_entries_of : (c : Columns) → length (entries_of c) ≡ length c.steps
+length_entries_of c = length-entries c 0 0 c.steps
+
+entry-at : (c : Columns) (from at : ℕ) (ss : List KeptStep) (index : ℕ)
+    → slice_get (entries_in c from at ss) index ≡ option_map (entry_in c (sends_before from ss index) (marks_before at ss index)) (slice_get ss index)
+entry-at c from at [] index = refl
+entry-at c from at (s ∷ ss) zero = refl
+entry-at c from at (s ∷ ss) (suc index) = entry-at c s.sends_end s.marks_end ss index
+
+pub entry_of_step : (c : Columns) (index : ℕ) (s : KeptStep) → slice_get c.steps index ≡ Some s
+    → slice_get (entries_of c) index ≡ Some (entry_in c (sends_before 0 c.steps index) (marks_before 0 c.steps index) s)
+entry_of_step c index s e = entry-at c 0 0 c.steps index ∙ ap (option_map (entry_in c (sends_before 0 c.steps index) (marks_before 0 c.steps index))) e
+
+pub no_entry_of_step : (c : Columns) (index : ℕ) → slice_get c.steps index ≡ None → slice_get (entries_of c) index ≡ None
+no_entry_of_step c index e = entry-at c 0 0 c.steps index ∙ ap (option_map (entry_in c (sends_before 0 c.steps index) (marks_before 0 c.steps index))) e
+
+step-at : (c : Columns) (from at : ℕ) (ss : List KeptStep) (index : ℕ) (s : KeptStep) → slice_get ss index ≡ Some s → AreStepsIn c from at ss
+    → IsStepIn c (sends_before from ss index) (marks_before at ss index) s
+step-at c from at [] index s e h = absurd (cc)
+step-at c from at (x ∷ ss) zero s e h = let same : x ≡ s = cc in subst (IsStepIn c from at) same h.0
+step-at c from at (x ∷ ss) (suc index) s e h = step-at c x.sends_end x.marks_end ss index s e h.1
+
+pub step_within : (c : Columns) (index : ℕ) (s : KeptStep) → slice_get c.steps index ≡ Some s → IsWhole c → IsStepIn c (sends_before 0 c.steps index) (marks_before 0 c.steps index) s
+step_within c index s e w = step-at c 0 0 c.steps index s e w
+
+-- a step's sends and marks begin where those of the one before it end
+pub sends_follow : (from : ℕ) (ss : List KeptStep) (index : ℕ) (s : KeptStep) → slice_get ss index ≡ Some s → sends_before from ss (suc index) ≡ s.sends_end
+sends_follow from [] index s e = absurd (cc)
+sends_follow from (x ∷ ss) zero s e = let same : x ≡ s = cc in ap (λ (k : KeptStep). k.sends_end) same
+sends_follow from (x ∷ ss) (suc index) s e = sends_follow x.sends_end ss index s e
+
+pub marks_follow : (at : ℕ) (ss : List KeptStep) (index : ℕ) (s : KeptStep) → slice_get ss index ≡ Some s → marks_before at ss (suc index) ≡ s.marks_end
+marks_follow at [] index s e = absurd (cc)
+marks_follow at (x ∷ ss) zero s e = let same : x ≡ s = cc in ap (λ (k : KeptStep). k.marks_end) same
+marks_follow at (x ∷ ss) (suc index) s e = marks_follow x.marks_end ss index s e
+
+-- ---- all that was sent and shown
+
+drop-all : {X : Type 0} (n : ℕ) (xs : List X) → n ≡ length xs → drop n xs ≡ []
+drop-all zero [] e = refl
+drop-all zero (x ∷ xs) e = absurd (omega arith)
+drop-all (suc n) [] e = absurd (omega arith)
+drop-all (suc n) (x ∷ xs) e = drop-all n xs (omega arith)
+
+-- what an entry before all others sent comes first
+sent-first : (past : Past) (e : HistoryEntry) → sent (past ++ e ∷ []) ≡ e.sends ++ sent past
+sent-first [] e = sym (append-nil e.sends)
+sent-first (x ∷ past) e = ap (λ l. l ++ x.sends) (sent-first past e) ∙ append_assoc e.sends (sent past) x.sends
+
+shown-first : (past : Past) (e : HistoryEntry) → shown (past ++ e ∷ []) ≡ e.marks ++ shown past
+shown-first [] e = sym (append-nil e.marks)
+shown-first (x ∷ past) e = ap (λ l. l ++ x.marks) (shown-first past e) ∙ append_assoc e.marks (shown past) x.marks
+
+past-first : (e : HistoryEntry) (later : List HistoryEntry) → past_of (e ∷ later) ≡ past_of later ++ e ∷ []
+past-first e later = reverse-append (e ∷ []) later
+
+sent-from : (c : Columns) (from at : ℕ) (ss : List KeptStep) → AreStepsIn c from at ss → sent (past_of (entries_in c from at ss)) ≡ drop from c.messages
+sent-from c from at [] h = sym (drop-all from c.messages h.0)
+sent-from c from at (s ∷ ss) h =
+    let later = entries_in c s.sends_end s.marks_end ss in
+    ap sent (past-first (entry_in c from at s) later)
+    ∙ sent-first (past_of later) (entry_in c from at s)
+    ∙ ap (λ l. slice_range c.messages from s.sends_end ++ l) (sent-from c s.sends_end s.marks_end ss h.1)
+    ∙ sym (drop_split c.messages from s.sends_end h.0.sends_rise)
+
+shown-from : (c : Columns) (from at : ℕ) (ss : List KeptStep) → AreStepsIn c from at ss → shown (past_of (entries_in c from at ss)) ≡ drop at c.marks
+shown-from c from at [] h = sym (drop-all at c.marks h.1)
+shown-from c from at (s ∷ ss) h =
+    let later = entries_in c s.sends_end s.marks_end ss in
+    ap shown (past-first (entry_in c from at s) later)
+    ∙ shown-first (past_of later) (entry_in c from at s)
+    ∙ ap (λ l. slice_range c.marks at s.marks_end ++ l) (shown-from c s.sends_end s.marks_end ss h.1)
+    ∙ sym (drop_split c.marks at s.marks_end h.0.marks_rise)
+
+pub sent_all : (c : Columns) (history : List HistoryEntry) → IsWhole c → entries_of c ≡ history → c.messages ≡ sent (past_of history)
+sent_all c history w e = sym (sent-from c 0 0 c.steps w) ∙ ap (λ h. sent (past_of h)) e
+
+pub shown_all : (c : Columns) (history : List HistoryEntry) → IsWhole c → entries_of c ≡ history → c.marks ≡ shown (past_of history)
+shown_all c history w e = sym (shown-from c 0 0 c.steps w) ∙ ap (λ h. shown (past_of h)) e
