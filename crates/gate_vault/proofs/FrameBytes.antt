@@ -3,7 +3,7 @@ use Rattle.std.proofs.Common.{◌≡◌, inl, inr, refl, sym, ap, ◌∙◌, ℕ
 use Rattle.std.proofs.lemmas.List.{take_at, drop_at, drop_all, drop_more, take-take, take-append-le, length-take}
 use Rattle.std.proofs.lemmas.Bool.{cases_eq}
 use Rattle.spec_base.specs.Disk.{Torn}
-use Rattle.gate_vault.specs.File.{head, payload, frames, gate_after, StandsFor, StandsWithGate, AreShort, IsBeforeOrAfter}
+use Rattle.gate_vault.specs.File.{head, payload, frames, gate_after, StandsFor, StandsWithGate, StandsClosed, AreShort, IsBeforeOrAfter}
 use Rattle.gate_vault.specs.Put.{WrittenOver}
 
 -- the head and the frames of these entries
@@ -34,6 +34,10 @@ areshort-append (first ∷ entries) entry short le = (short.0, areshort-append e
 -- a file with the gate stands for the entries
 pub stands_with : (file : List ℕ) (entries : List (List ℕ)) → StandsWithGate file entries → StandsFor file entries
 stands_with file entries stands = record { rest = stands.gate ∷ stands.rest; split = stands.split; closed = stands.closed }
+
+-- and so does one with 00 at its last gate
+pub closed_stands : (file : List ℕ) (entries : List (List ℕ)) → StandsClosed file entries → StandsWithGate file entries
+closed_stands file entries stands = record { gate = 0; rest = stands.rest; split = stands.split; closed = omega arith }
 
 -- a gate, the payload and a closed gate behind the frames
 pub record IsStaged (entries : List (List ℕ)) (entry file : List ℕ) : Type 0 where
@@ -139,7 +143,7 @@ module _ (entries : List (List ℕ)) (entry : List ℕ) (at : ℕ) (place : at �
       }
 
   -- the second write, whole
-  pub written_gate : (file c : List ℕ) → IsStaged entries entry file → WrittenOver at (1 ∷ []) file c → StandsWithGate c (entries ++ entry ∷ [])
+  pub written_gate : (file c : List ℕ) → IsStaged entries entry file → WrittenOver at (1 ∷ []) file c → StandsClosed c (entries ++ entry ∷ [])
   written_gate file c staged over =
       let mid : List ℕ = over.0 in
       let written = over.2 in
@@ -153,7 +157,6 @@ module _ (entries : List (List ℕ)) (entry : List ℕ) (at : ℕ) (place : at �
       let ends : drop (at + 1) mid ≡ tail = ap (drop (at + 1)) whole ∙ drop_at front_mid tail (at + 1) long in
       let no_gap : written.gap ≡ [] = nil_of_length written.gap (omega (arith, written.reaches)) in
       record {
-        gate = 0;
         rest = after.rest;
         split =
             written.result
@@ -164,18 +167,15 @@ module _ (entries : List (List ℕ)) (entry : List ℕ) (at : ℕ) (place : at �
             ∙ append_assoc (body entries) (1 ∷ []) tail
             ∙ sym (append_assoc (body entries) (1 ∷ payload entry) (0 ∷ after.rest))
             ∙ ap (λ (l : List ℕ). l ++ (0 ∷ after.rest)) (sym (body-append entries entry));
-        closed = omega arith;
       }
 
 -- the head and a closed gate over whatever stood there
-pub formatted : (file c : List ℕ) → WrittenOver 0 (head ++ (0 ∷ [])) file c → StandsWithGate c []
+pub formatted : (file c : List ℕ) → WrittenOver 0 (head ++ (0 ∷ [])) file c → StandsClosed c []
 formatted file c over =
     let mid : List ℕ = over.0 in
     let written = over.2 in
     let no_gap : written.gap ≡ [] = nil_of_length written.gap (omega (arith, written.reaches)) in
     record {
-      gate = 0;
       rest = drop 9 mid;
       split = written.result ∙ ap (λ (l : List ℕ). l ++ (head ++ (0 ∷ [])) ++ drop 9 mid) no_gap;
-      closed = omega arith;
     }

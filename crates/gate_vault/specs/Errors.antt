@@ -1,3 +1,4 @@
+-- The vault's error for a disk call that stopped.
 use Rattle.spec_base.specs.declared.stop.Stop.{Stop}
 use Rattle.spec_base.specs.declared.stop.Stop.TheVariants.{Failed, OutOfMemory as NoMemory}
 use Rattle.gate_vault.specs.declared.errors.VaultError.{VaultError}

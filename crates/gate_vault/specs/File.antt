@@ -36,6 +36,11 @@ pub record StandsWithGate (file : List ℕ) (entries : List (List ℕ)) : Type 0
   pub split : file ≡ head ++ frames entries ++ gate ∷ rest
   pub closed : gate ≢ 1
 
+-- it stands for the entries, and the byte of its last gate is 00, as a vault writes it
+pub record StandsClosed (file : List ℕ) (entries : List (List ℕ)) : Type 0 where
+  pub rest : List ℕ
+  pub split : file ≡ head ++ frames entries ++ 0 ∷ rest
+
 -- each entry has at most 4,096 bytes
 abbrev pub AreShort : List (List ℕ) → Type 0
 AreShort [] = ⊤

@@ -1,8 +1,13 @@
 -- What becomes of a disk's bytes in a write that is made once more where it fails, and in a write with a sync.
-use Rattle.std.specs.Prelude.{◌≡◌, ◌⊎◌, ℕ, ◌+◌, ◌-◌, ◌^◌, ◌≤◌, List, length, Option, Some}
+use Rattle.std.specs.Prelude.{◌≡◌, ◌⊎◌, ℕ, ◌+◌, ◌-◌, ◌^◌, ◌≤◌, List, length, Option, Some, Result, Ok, Err}
 use Rattle.spec_base.specs.Crash.{Only}
 use Rattle.spec_base.specs.Disk.{Torn, Written}
-use Rattle.gate_vault.specs.File.{StandsWithGate, IsBeforeOrAfter}
+use Rattle.gate_vault.specs.File.{StandsClosed, IsBeforeOrAfter}
+
+-- so many device calls, each made once more where it fails: at Ok none failed twice, and at an error one did at most
+abbrev pub TriesEach : {T E : Type 0} → ℕ → ℕ → ℕ → Result T E → Type 0
+TriesEach calls faults_old faults_new (Ok _) = faults_new ≤ faults_old + calls
+TriesEach calls faults_old faults_new (Err _) = faults_new ≤ faults_old + calls + 1
 
 -- a disk failed twice in one call, one after the other: its count rose by two or more, or stands at the end of its type
 pub record FailedTwice (faults_old faults_new row_new : ℕ) : Type 0 where
@@ -24,11 +29,15 @@ pub record IsPut (at : ℕ) (bytes old : List ℕ) (seen : Option (List ℕ)) (o
 abbrev pub IsTornPut : ℕ → ℕ → List ℕ → Option (List ℕ) → Type 0
 IsTornPut at n old seen = (file : List ℕ) × (seen ≡ Some file) × Torn at n old file
 
--- the disk tells a file that stands for these entries, with the byte of its last gate, and every crash leaves that file
+-- the disk tells a file that stands for these entries, with 00 at its last gate
+abbrev pub TellsClosed : Option (List ℕ) → List (List ℕ) → Type 0
+TellsClosed seen entries = (file : List ℕ) × (seen ≡ Some file) × StandsClosed file entries
+
+-- the disk tells a file that stands for these entries, with 00 at its last gate, and every crash leaves that file
 pub record IsKept (seen : Option (List ℕ)) (outcomes : List ℕ → Type 0) (entries : List (List ℕ)) : Type 0 where
   pub file : List ℕ
   pub told : seen ≡ Some file
-  pub stands : StandsWithGate file entries
+  pub stands : StandsClosed file entries
   pub only : Only file outcomes
 
 -- the disk tells a file that stands for these entries, or for these and one more, with the byte of its last gate

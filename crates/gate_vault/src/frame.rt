@@ -4,7 +4,7 @@ ghost use Rattle.spec_base.specs.Faults.{StaysSound};
 ghost use Rattle.spec_base.specs.Crash.{Only, LeavesOnly};
 ghost use Rattle.spec_base.specs.declared.stop.Stop.TheVariants.{Failed};
 ghost use Rattle.gate_vault.specs.File.{payload, gate_after, StandsFor, StandsWithGate, IsBeforeOrAfter};
-ghost use Rattle.gate_vault.specs.Put.{FailedTwice, IsKept, TellsBeforeOrAfter};
+ghost use Rattle.gate_vault.specs.Put.{FailedTwice, TriesEach, IsKept, TellsBeforeOrAfter};
 
 use crate::put::put;
 use quota_table::{Bytes, OutOfMemory};
@@ -45,6 +45,7 @@ pub fn write_frame<D: Disk>(disk: &mut D, gate: u64, bytes: &[u8]) -> Result<(),
         → D.seen disk.old ≡ Some file → Only file (D.may_leave disk.old) → StandsWithGate file entries
         → LeavesOnly D.moment D.left_since disk.old disk.new (IsBeforeOrAfter entries entry) }
     ensures fault { IsErrOf result Failed → FailedTwice (D.faults disk.old) (D.faults disk.new) (D.in_a_row disk.new) }
+    ensures tries { TriesEach 4 (D.faults disk.old) (D.faults disk.new) result }
     ensures no_fall { D.faults disk.old ≤ D.faults disk.new }
     ensures sound { StaysSound (D.never_fails disk.old) (D.never_fails disk.new) (D.faults disk.old) (D.faults disk.new) }
 {

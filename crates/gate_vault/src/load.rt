@@ -4,7 +4,7 @@ ghost use Rattle.spec_base.specs.Crash.{Only, NoneNew, Elapses};
 ghost use Rattle.spec_base.specs.Faults.{StaysSound};
 ghost use Rattle.gate_vault.specs.declared.errors.VaultError.TheVariants.{DiskFault};
 ghost use Rattle.gate_vault.specs.Put.{FailedTwice};
-ghost use Rattle.gate_vault.specs.Stops.{IsStop, IsStopOrDamaged, IsStopOrNoVault, IsLoadError};
+ghost use Rattle.gate_vault.specs.Stops.{IsStop, IsStopOrDamaged, IsStopOrNoVault, IsLoadError, WhereRead};
 ghost use Rattle.gate_vault.specs.File.{head};
 ghost use Rattle.gate_vault.specs.Frames.{FrameRead, DiffersFirst, HeadRead, FileRead};
 
@@ -92,8 +92,10 @@ pub fn read_frame<D: Disk>(
 }
 
 #[tactic(auto, using(crate::proofs::Again::quiet_then))]
-/// Reads the frames behind the head, up to a closed gate, and answers their entries and where that gate stands.
+/// Reads the frames behind the head, up to a closed gate, and answers their entries and where that gate stands. The disk
+/// was synced before, so what is read stands.
 pub fn read_entries<D: Disk>(alloc: Global, disk: &mut D) -> Result<(Entries, u64), VaultError>
+    requires synced { (file : List ℕ) → D.seen disk.old ≡ Some file → Only file (D.may_leave disk.old) }
     ensures entries { (file : List ℕ) → D.seen disk.old ≡ Some file → take 8 file ≡ head → FileRead file result }
     ensures named { IsStopOrDamaged result }
     ensures seen { D.seen disk.new ≡ D.seen disk.old }
@@ -131,6 +133,7 @@ fn head_fault(bytes: &[u8]) -> Option<usize>
 
 /// Reads the first bytes of a file, which are to be the head.
 fn check_head<D: Disk>(alloc: Global, disk: &mut D) -> Result<(), VaultError>
+    requires synced { (file : List ℕ) → D.seen disk.old ≡ Some file → Only file (D.may_leave disk.old) }
     ensures head { (file : List ℕ) → D.seen disk.old ≡ Some file → HeadRead file result }
     ensures named { IsStopOrNoVault result }
     ensures seen { D.seen disk.new ≡ D.seen disk.old }
@@ -154,7 +157,7 @@ fn check_head<D: Disk>(alloc: Global, disk: &mut D) -> Result<(), VaultError>
 /// Syncs, and reads the whole file.
 pub fn read_file<D: Disk>(alloc: Global, disk: &mut D) -> Result<(Entries, u64), VaultError>
     ensures file { (file : List ℕ) → D.seen disk.old ≡ Some file → FileRead file result }
-    ensures durable { (file : List ℕ) → D.seen disk.old ≡ Some file → OnOk result (Only file (D.may_leave disk.new)) }
+    ensures durable { (file : List ℕ) → D.seen disk.old ≡ Some file → WhereRead result (Only file (D.may_leave disk.new)) }
     ensures named { IfErr result IsLoadError }
     ensures seen { D.seen disk.new ≡ D.seen disk.old }
     ensures none_new { NoneNew (D.may_leave disk.old) (D.may_leave disk.new) }

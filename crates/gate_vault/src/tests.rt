@@ -146,6 +146,19 @@ fn single_failures_are_survived(rt: HostRuntime) -> Result<(), Fail> {
     Ok(())
 }
 
+/// A format makes two device calls and an append four, so the one after these does not fail.
+#[test]
+fn four_calls_an_append(rt: HostRuntime) -> Result<(), Fail> {
+    let alloc = rt.alloc();
+    for (call, faults) in [(1, 1), (2, 1), (5, 1), (6, 0)] {
+        let mut vault = formatted(alloc, &[call])?;
+        vault.append(b"ab")?;
+        let disk = vault.into_disk();
+        assert_eq!(rt; disk.fault_count(), faults, "at {call}");
+    }
+    Ok(())
+}
+
 /// Two failures in a row, of a format and of a load, are a disk fault. A load has the sync, the read of the head, two
 /// reads of the frame, and two of the end.
 #[test]

@@ -4,7 +4,7 @@ ghost use Rattle.spec_base.specs.Faults.{StaysSound};
 ghost use Rattle.spec_base.specs.Disk.{Told, GivesPart, Torn};
 ghost use Rattle.spec_base.specs.Crash.{Only, NoneNew, Follows, Elapses};
 ghost use Rattle.spec_base.specs.declared.stop.Stop.TheVariants.{Failed};
-ghost use Rattle.gate_vault.specs.Put.{FailedTwice, WrittenOver};
+ghost use Rattle.gate_vault.specs.Put.{FailedTwice, TriesEach, WrittenOver};
 
 use spec_base::{Disk, Stop};
 
@@ -16,6 +16,7 @@ pub fn read_twice<D: Disk>(disk: &mut D, at: u64, into: &mut [u8]) -> Result<usi
     ensures none_new { NoneNew (D.may_leave disk.old) (D.may_leave disk.new) }
     ensures time { Elapses (D.moment disk.old) (D.moment disk.new) (D.left_since disk.old) (D.left_since disk.new) (D.may_leave disk.old) }
     ensures fault { IsErrOf result Failed → FailedTwice (D.faults disk.old) (D.faults disk.new) (D.in_a_row disk.new) }
+    ensures tries { TriesEach 1 (D.faults disk.old) (D.faults disk.new) result }
     ensures no_fall { D.faults disk.old ≤ D.faults disk.new }
     ensures sound { StaysSound (D.never_fails disk.old) (D.never_fails disk.new) (D.faults disk.old) (D.faults disk.new) }
 {
@@ -34,6 +35,7 @@ pub fn write_twice<D: Disk>(disk: &mut D, at: u64, bytes: &[u8]) -> Result<(), S
     ensures time { Elapses (D.moment disk.old) (D.moment disk.new) (D.left_since disk.old) (D.left_since disk.new)
         (λ c. (d : List ℕ) × D.may_leave disk.old d × Torn at (length bytes.now) d c) }
     ensures fault { IsErrOf result Failed → FailedTwice (D.faults disk.old) (D.faults disk.new) (D.in_a_row disk.new) }
+    ensures tries { TriesEach 1 (D.faults disk.old) (D.faults disk.new) result }
     ensures no_fall { D.faults disk.old ≤ D.faults disk.new }
     ensures sound { StaysSound (D.never_fails disk.old) (D.never_fails disk.new) (D.faults disk.old) (D.faults disk.new) }
 {
@@ -51,6 +53,7 @@ pub fn sync_twice<D: Disk>(disk: &mut D) -> Result<(), Stop>
     ensures none_new { NoneNew (D.may_leave disk.old) (D.may_leave disk.new) }
     ensures time { Elapses (D.moment disk.old) (D.moment disk.new) (D.left_since disk.old) (D.left_since disk.new) (D.may_leave disk.old) }
     ensures fault { IsErrOf result Failed → FailedTwice (D.faults disk.old) (D.faults disk.new) (D.in_a_row disk.new) }
+    ensures tries { TriesEach 1 (D.faults disk.old) (D.faults disk.new) result }
     ensures no_fall { D.faults disk.old ≤ D.faults disk.new }
     ensures sound { StaysSound (D.never_fails disk.old) (D.never_fails disk.new) (D.faults disk.old) (D.faults disk.new) }
 {

@@ -5,8 +5,8 @@ ghost use Rattle.spec_base.specs.Disk.{Torn};
 ghost use Rattle.gate_vault.specs.declared.errors.VaultError.TheVariants.{DiskFault};
 ghost use Rattle.gate_vault.specs.File.{IsBeforeOrAfter, StandsFor, StandsWithGate};
 ghost use Rattle.gate_vault.specs.Frames.{RefusesFile};
-ghost use Rattle.gate_vault.specs.Stops.{IsStop, IsLoadError};
-ghost use Rattle.gate_vault.specs.Put.{FailedTwice, IsTornPut, TellsBeforeOrAfter};
+ghost use Rattle.gate_vault.specs.Stops.{IsStop, IsLoadError, IsOfFile};
+ghost use Rattle.gate_vault.specs.Put.{FailedTwice, TriesEach, IsTornPut, TellsBeforeOrAfter, TellsClosed};
 
 use crate::errors::VaultError;
 use crate::frame::{gate_behind, payload_of, write_frame};
@@ -38,12 +38,14 @@ impl<D: Disk> Vault<D> {
     /// its first nine bytes and what lies past its old end torn.
     pub fn format(alloc: Global, mut disk: D) -> Result<Vault<D>, (D, VaultError)>
         ensures empty { (file : List ℕ) → D.seen disk ≡ Some file → IfOk result (λ vault. KeepsWithGate D.seen D.may_leave vault []) }
+        ensures closed { (file : List ℕ) → D.seen disk ≡ Some file → IfOk result (λ vault. TellsClosed (D.seen (disk_of vault)) []) }
         ensures whole { IfOk result (λ vault. is_broken vault ≡ false) }
         ensures named { IfErr result (λ e. IsStop e.1) }
         ensures torn { (file : List ℕ) → D.seen disk ≡ Some file → IfErr result (λ e. IsTornPut 0 9 file (D.seen e.0)) }
         ensures any_moment { (file : List ℕ) → Only file (D.may_leave disk)
             → LeavesOnly D.moment D.left_since disk (formatted_disk result) (Torn 0 9 file) }
         ensures fault { IfErr result (λ e. e.1 ≡ DiskFault → FailedTwice (D.faults disk) (D.faults e.0) (D.in_a_row e.0)) }
+        ensures tries { TriesEach 2 (D.faults disk) (D.faults (formatted_disk result)) result }
         ensures no_fall { D.faults disk ≤ D.faults (formatted_disk result) }
         ensures sound { StaysSound (D.never_fails disk) (D.never_fails (formatted_disk result)) (D.faults disk) (D.faults (formatted_disk result)) }
     {
@@ -69,6 +71,7 @@ impl<D: Disk> Vault<D> {
         ensures with_gate { (file : List ℕ) (entries : List (List ℕ)) → D.seen disk ≡ Some file → StandsWithGate file entries
             → IfOk result (λ loaded. (loaded.1 ≡ entries) × KeepsWithGate D.seen D.may_leave loaded.0 entries) }
         ensures refused { (file : List ℕ) → D.seen disk ≡ Some file → IfErr result (λ e. RefusesFile file e.1) }
+        ensures synced { (file : List ℕ) → D.seen disk ≡ Some file → IfErr result (λ e. IsOfFile e.1 → Only file (D.may_leave e.0)) }
         ensures named { IfErr result (λ e. IsLoadError e.1) }
         ensures same { D.seen (loaded_disk result) ≡ D.seen disk }
         ensures none_new { NoneNew (D.may_leave disk) (D.may_leave (loaded_disk result)) }
@@ -104,12 +107,15 @@ impl<D: Disk> Vault<D> {
             (λ e. (result ≡ Err e) × (self.new ≡ self.old)) }
         ensures acknowledged { (entries : List (List ℕ)) → Keeps D.seen D.may_leave self.old entries
             → OnOk result (KeepsWithGate D.seen D.may_leave self.new (entries ++ entry.now ∷ [])) }
+        ensures closed { (entries : List (List ℕ)) → Keeps D.seen D.may_leave self.old entries
+            → OnOk result (TellsClosed (D.seen (disk_of self.new)) (entries ++ entry.now ∷ [])) }
         ensures any_moment { (entries : List (List ℕ)) → KeepsWithGate D.seen D.may_leave self.old entries
             → LeavesOnly D.moment D.left_since (disk_of self.old) (disk_of self.new) (IsBeforeOrAfter entries entry.now) }
         ensures failed { (entries : List (List ℕ)) → KeepsWithGate D.seen D.may_leave self.old entries
             → OnErr result (TellsBeforeOrAfter (D.seen (disk_of self.new)) entries entry.now) }
         ensures broken { is_broken self.new ≡ broken_after (is_broken self.old) result }
         ensures fault { IsErrOf result DiskFault → FailedTwice (D.faults (disk_of self.old)) (D.faults (disk_of self.new)) (D.in_a_row (disk_of self.new)) }
+        ensures tries { TriesEach 4 (D.faults (disk_of self.old)) (D.faults (disk_of self.new)) result }
         ensures no_fall { D.faults (disk_of self.old) ≤ D.faults (disk_of self.new) }
         ensures sound { StaysSound (D.never_fails (disk_of self.old)) (D.never_fails (disk_of self.new)) (D.faults (disk_of self.old)) (D.faults (disk_of self.new)) }
     {

@@ -2,7 +2,7 @@ use Rattle.std.proofs.Common.{◌≡◌, ◌∙◌, ◌++◌, ◌∷◌, [], ari
 use Rattle.gate_vault.specs.File.{payload}
 use Rattle.gate_vault.specs.Put.{TellsBeforeOrAfter}
 use Rattle.gate_vault.proofs.Again.{on_err_always}
-use Rattle.gate_vault.proofs.FrameBytes.{areshort-append, gate_after-append}
+use Rattle.gate_vault.proofs.FrameBytes.{closed_stands, areshort-append, gate_after-append}
 use Rattle.gate_vault.proofs.vault.Vault.append.Goals as goal
 
 pub returns-in_err-write_frame-clause-any_moment : goal.returns-in_err-write_frame-clause-any_moment
@@ -24,7 +24,7 @@ returns-clause-acknowledged g c = λ entries keeps.
     record {
       file = kept.file;
       told = kept.told;
-      stands = kept.stands;
+      stands = closed_stands kept.file (entries ++ c.args.entry.now ∷ []) kept.stands;
       only = kept.only;
       short = areshort-append entries c.args.entry.now keeps.short (omega arith);
       gate = omega (arith, gate_after-append entries c.args.entry.now, keeps.gate, c.in_ok-next.ensures);
@@ -34,3 +34,9 @@ pub returns-clause-any_moment : goal.returns-clause-any_moment
 returns-clause-any_moment g c = λ entries keeps.
     let bytes : c.as_slice.result.now ≡ payload c.args.entry.now ++ (0 ∷ []) = c.as_slice.ensures ∙ c.in_ok-bytes.ensures in
     c.in_ok-write_frame.ensures.any_moment entries c.args.entry.now keeps.file keeps.gate bytes keeps.told keeps.only keeps.stands
+
+pub returns-clause-closed : goal.returns-clause-closed
+returns-clause-closed g c = λ entries keeps.
+    let bytes : c.as_slice.result.now ≡ payload c.args.entry.now ++ (0 ∷ []) = c.as_slice.ensures ∙ c.in_ok-bytes.ensures in
+    let kept = c.in_ok-write_frame.ensures.acknowledged entries c.args.entry.now keeps.file keeps.gate bytes keeps.told keeps.stands in
+    (kept.file, kept.told, kept.stands)
