@@ -1,3 +1,4 @@
+-- The fold of two logs is the fold of the second from that of the first.
 use Rattle.std.proofs.Common.{◌≡◌, ℕ, List, [], ◌∷◌, ◌++◌, refl, sym, ap, ◌∙◌, append_assoc}
 use Rattle.record_codec.specs.declared.record.Record.{Record}
 use Rattle.app_law.specs.Folds.{fold_of, outputs_of}

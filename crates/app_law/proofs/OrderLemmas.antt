@@ -1,3 +1,4 @@
+-- Too many words ask nothing of an application.
 use Rattle.std.proofs.Common.{◌≡◌, ℕ, List, ◌∷◌, None, refl}
 use Rattle.app_law.specs.Banks.{bank_order_of}
 use Rattle.app_law.specs.KvOrders.{kv_order_of}

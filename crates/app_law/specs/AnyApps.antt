@@ -1,3 +1,4 @@
+-- The application of any kind: each of its parts is that of the kind.
 use Rattle.std.specs.Prelude.{ℕ, List, replicate, ◌≡◌, refl, []}
 use Rattle.std.specs.FinMap as entries
 use Rattle.record_codec.specs.declared.record.Record.{Record}

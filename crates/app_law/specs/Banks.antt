@@ -1,3 +1,4 @@
+-- The bank: eight accounts, deposits and moves.
 use Rattle.std.specs.Prelude.{ℕ, ◌+◌, ◌-◌, ◌^◌, ◌<◌, Bool, ◌==◌, ◌&&◌, ◌||◌, nat_le, List, [], ◌∷◌, get_or, slice_set, Option, Some, None, if◌then◌else◌, codes, decimal}
 use Rattle.std.specs.Int.{is_in_range}
 use Rattle.std.specs.List.{join_by}

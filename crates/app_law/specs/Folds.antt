@@ -1,3 +1,4 @@
+-- What a log makes of an application: its state, its output and its shown text.
 use Rattle.std.specs.Prelude.{ℕ, List, [], ◌∷◌, ◌++◌}
 use Rattle.record_codec.specs.declared.record.Record.{Record}
 

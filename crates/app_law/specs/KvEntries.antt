@@ -1,3 +1,4 @@
+-- The store's entries as the code keeps them, read as keys with values.
 use Rattle.std.specs.Prelude.{ℕ, List, [], ◌∷◌, map, Option, Some, None, if◌then◌else◌}
 use Rattle.std.specs.Str.{bytes_eq}
 use Rattle.app_law.specs.declared.kv.KvEntry.{KvEntry}

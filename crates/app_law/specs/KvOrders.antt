@@ -1,3 +1,4 @@
+-- What the words of a body ask of the store.
 use Rattle.std.specs.Prelude.{ℕ, List, [], ◌∷◌, Option, Some, None, if◌then◌else◌, codes}
 use Rattle.std.specs.Str.{bytes_eq}
 use Rattle.app_law.specs.declared.kv_order.KvOrder.{KvOrder}

@@ -1,3 +1,4 @@
+-- The store of keys and values: at most 32 keys, set, read and deleted.
 use Rattle.std.specs.Prelude.{ℕ, Bool, ◌&&◌, not, nat_le, List, [], ◌++◌, Option, Some, None, if◌then◌else◌, codes, decimal}
 use Rattle.std.specs.Option.{unwrap_or}
 use Rattle.std.specs.FinMap as entries

@@ -1,3 +1,4 @@
+-- Items that stand at rising positions, and their parts below a position and from it on.
 use Rattle.std.specs.Prelude.{ℕ, ◌<◌, nat_lt, nat_le, List, [], ◌∷◌, filter}
 use Rattle.std.specs.List.{AllByRecursion}
 

@@ -1,3 +1,4 @@
+-- The tally: the sum of the numbers added so far, and how many they are.
 use Rattle.std.specs.Prelude.{ℕ, ◌+◌, ◌-◌, ◌^◌, min, Bool, ◌&&◌, nat_le, List, [], ◌++◌, if◌then◌else◌, codes, decimal}
 use Rattle.std.specs.Str.Parse.{digits_value}
 use Rattle.record_codec.specs.declared.record.Record.{Record}

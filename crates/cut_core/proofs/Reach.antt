@@ -1,3 +1,4 @@
+-- Positions, ends and slots stay within the ranges of their types.
 use Rattle.std.proofs.Common.{◌≡◌, ℕ, ◌^◌, ◌≤◌, List, length, Option, Some, None, refl, sym, subst, arith}
 use Rattle.std.specs.Option.{IfSome, option_copied}
 use denote.Ref.{Bor}

@@ -1,3 +1,4 @@
+-- The fold of some lists of entries, worked out by hand.
 use Rattle.std.proofs.Common.{◌≡◌, List, [], ◌∷◌, Some, None, refl}
 use Rattle.quota_table.specs.declared.rows.Row.{Row}
 use Rattle.quota_table.specs.declared.entry.Entry.TheVariants.{Cut, Table, Remove}

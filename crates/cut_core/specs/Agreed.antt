@@ -1,3 +1,4 @@
+-- What the code keeps of the agreed state, window by window, and the agreement that it stands for.
 use Rattle.std.specs.Prelude.{ℕ, ◌≡◌, ◌<◌, ◌≤◌, ◌+◌, ◌-◌, ◌*◌, List, ◌++◌, length, take, replicate, slice_index, Some, None}
 use Rattle.std.specs.List.{flat_map, slice_get}
 use Rattle.std.specs.Option.{option_map, unwrap_or, IsSome}

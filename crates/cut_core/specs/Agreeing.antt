@@ -1,3 +1,4 @@
+-- The laws of more entries: maps agree below the removals, and what is covered stays.
 use Rattle.std.specs.Prelude.{ℕ, ◌<◌, ◌≤◌, ◌≡◌, ◌+◌, List, [], ◌∷◌, ◌++◌, length}
 use Rattle.std.specs.List.{AllByRecursion}
 use Rattle.quota_table.specs.declared.entry.Entry.{Entry}

@@ -1,3 +1,4 @@
+-- What a list of entries has agreed on, as a record, and its plain questions.
 use Rattle.std.specs.Prelude.{ℕ, ◌+◌, ◌==◌, Bool, if◌then◌else◌, List, [], ◌∷◌, length, Option, Some, None}
 use Rattle.std.specs.List.{list_any}
 use Rattle.quota_table.specs.declared.rows.Row.{Row}

@@ -1,3 +1,4 @@
+-- The laws of every list of entries: windows follow one another, each local has one position, gone shards have ended.
 use Rattle.std.specs.Prelude.{ℕ, ◌<◌, ◌≤◌, ◌≡◌, ◌+◌, ◌*◌, ◌↔◌, true, false, List, length, Some, None, IsSome, IfSome}
 use Rattle.std.specs.List.{AllByRecursion, range_with_len}
 use Rattle.quota_table.specs.declared.entry.Entry.{Entry}

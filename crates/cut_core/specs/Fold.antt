@@ -1,3 +1,4 @@
+-- The state after an entry, and the fold of a list of entries.
 use Rattle.std.specs.Prelude.{ℕ, ◌+◌, ◌≤◌, not, if◌then◌else◌, List, [], ◌∷◌, ◌++◌, map, Option, Some, None, replicate}
 use Rattle.std.specs.List.{filter}
 use Rattle.quota_table.specs.declared.rows.Row.{Row}

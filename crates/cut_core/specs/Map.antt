@@ -1,3 +1,4 @@
+-- Who has which position: the covered owners, the rest of the current window, and the granted one.
 use Rattle.std.specs.Prelude.{ℕ, ◌-◌, ◌==◌, if◌then◌else◌, List, [], ◌∷◌, ◌++◌, length, Option, Some, None, replicate}
 use Rattle.std.specs.List.{slice_get}
 use Rattle.fix_ante.specs.declared.spots.Owner.{Owner}

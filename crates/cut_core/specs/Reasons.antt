@@ -1,3 +1,4 @@
+-- Why an entry does not fit a state.
 use Rattle.std.specs.Prelude.{ℕ, ◌==◌, Bool, not, nat_lt, if◌then◌else◌, List, length, Option, Some, None}
 use Rattle.quota_table.specs.declared.rows.Row.{Row}
 use Rattle.quota_table.specs.declared.entry.Entry.{Entry}

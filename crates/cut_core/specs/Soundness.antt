@@ -1,3 +1,4 @@
+-- What holds of the state after every list of entries, as its proofs carry it.
 use Rattle.std.specs.Prelude.{ℕ, ◌≡◌, ◌<◌, ◌≤◌, ◌+◌, ◌*◌, true, false, nat_eq, length, map, Option, Some, None}
 use Rattle.std.specs.List.{AllByRecursion, IsDistinct, range_with_len}
 use Rattle.fix_ante.specs.Windows.{Window, IsWindow, has_row, width_of, end_of, start_after}

@@ -1,3 +1,4 @@
+-- The position of a local and the owner of a place, by the rule of quotas.
 use Rattle.std.specs.Prelude.{ℕ, ◌+◌, ◌-◌, ◌*◌, ◌/◌, ◌%◌, ◌==◌, ◌&&◌, nat_lt, nat_le, if◌then◌else◌, List, [], ◌∷◌, Option, Some, None}
 use Rattle.std.specs.Option.{option_map}
 use Rattle.fix_ante.specs.declared.spots.Spot.{Spot}

@@ -1,3 +1,4 @@
+-- Windows, their rows with the starts, and the windows that follow.
 use Rattle.std.specs.Prelude.{ℕ, ◌+◌, ◌*◌, ◌^◌, ◌<◌, ◌≤◌, ◌==◌, Bool, nat_le, nat_eq, if◌then◌else◌, List, [], ◌∷◌, map, IsTrue}
 use Rattle.std.specs.List.{list_any, list_all}
 use Rattle.std.specs.Ordering.{on, eq_of_both}

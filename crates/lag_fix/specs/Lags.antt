@@ -1,3 +1,4 @@
+-- Which rows are short of a round's end, and whether a row is past a round's begin.
 use Rattle.std.specs.Prelude.{ℕ, ◌+◌, ◌*◌, Bool, nat_lt, if◌then◌else◌, List, [], ◌∷◌, slice_index}
 use Rattle.std.specs.List.{list_any}
 use Rattle.fix_ante.specs.declared.spots.Spot.{Spot}

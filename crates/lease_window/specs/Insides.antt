@@ -1,3 +1,4 @@
+-- What the code keeps of the known entries, and that it fits them.
 use Rattle.std.specs.Prelude.{◌≡◌, ◌≤◌}
 use Rattle.std.specs.List.{AllByRecursion}
 use Rattle.cut_core.specs.declared.gone.Gone.{Gone}

@@ -1,3 +1,4 @@
+-- The known entries, and what they agree on.
 use Rattle.std.specs.Prelude.{List, [], ◌∷◌, ◌++◌}
 use Rattle.quota_table.specs.declared.entry.Entry.{Entry}
 use Rattle.fix_ante.specs.Windows.{Window}

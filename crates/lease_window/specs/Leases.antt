@@ -1,3 +1,4 @@
+-- A local's position in the map, with the number of the window in which it stands.
 use Rattle.std.specs.Prelude.{ℕ, List, Option}
 use Rattle.std.specs.List.{slice_get}
 use Rattle.std.specs.Option.{option_map, option_and_then}

@@ -1,3 +1,4 @@
+-- The acceptor of one slot: its state, and what it answers.
 use Rattle.std.specs.Prelude.{ℕ, Option, Some, None}
 use Rattle.majority.specs.Ballots.{greater_promise}
 use Rattle.majority.specs.declared.answers.PrepareAnswer.{PrepareAnswer}

@@ -1,3 +1,4 @@
+-- The ballots of one slot, who owns them, and what a majority is.
 use Rattle.std.specs.Prelude.{◌≡◌, ℕ, ◌+◌, ◌*◌, ◌/◌, ◌%◌, ◌<◌, ◌≤◌, Bool, nat_lt, nat_eq, if◌then◌else◌, List, ◌∷◌, [], ◌++◌, length, All, Option, Some, None}
 use Rattle.std.specs.List.{IsDistinct, list_any}
 

@@ -1,3 +1,4 @@
+-- What the journals of a majority tell of the chosen values.
 use Rattle.std.specs.Prelude.{◌≡◌, ℕ, ◌+◌, ◌*◌, ◌/◌, ◌<◌, ◌≤◌, List, [], ◌∷◌, length, All, map, nat_eq, slice_get, option_map, Option, Some, None}
 use Rattle.std.specs.List.{IsDistinct}
 use Rattle.majority.specs.Acceptors.{AcceptorState}

@@ -1,3 +1,4 @@
+-- One replica's attempt at a ballot: how it starts, what it makes of answers, and what it is sending.
 use Rattle.std.specs.Prelude.{◌≡◌, ℕ, ◌^◌, ◌<◌, ◌≤◌, max, Bool, ◌&&◌, ◌==◌, nat_lt, is_some, is_none, if◌then◌else◌, List, [], ◌∷◌, length, Option, Some, None, unwrap_or}
 use Rattle.majority.specs.Ballots.{next_ballot, greater_promise, with_replica, is_majority}
 use Rattle.majority.specs.Acceptors.{AcceptorState, with_promise, with_vote}

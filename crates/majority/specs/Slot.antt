@@ -1,3 +1,4 @@
+-- One slot as a machine over every schedule, of which agreement is said.
 use Rattle.std.specs.Prelude.{ℕ, ◌^◌, ◌==◌, nat_lt, if◌then◌else◌, List, [], ◌∷◌, slice_get, Option, Some, None}
 use Rattle.majority.specs.Acceptors.{AcceptorState, fresh_acceptor, prepare_answer, after_prepare, accept_answer, after_accept}
 use Rattle.majority.specs.Proposers.{Attempt, ballot_for, attempt_started, own_started, promise_answer, attempt_after_promise, own_after_promise, attempt_after_accepted}

@@ -1,3 +1,4 @@
+-- Votes, and when a value is chosen.
 use Rattle.std.specs.Prelude.{ℕ, List, All, Contains}
 use Rattle.majority.specs.Ballots.{IsMajority}
 

@@ -1,3 +1,4 @@
+-- The held outputs by position, with the room that there is for them.
 use Rattle.std.specs.Prelude.{ℕ, List, [], ◌∷◌, ◌++◌}
 use Rattle.app_law.specs.Positions.{below, from_on}
 use Rattle.output_gate.specs.declared.kept.KeptOut.{KeptOut}

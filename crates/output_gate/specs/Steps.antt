@@ -1,3 +1,4 @@
+-- What the steps of releasing and dropping do: one output at an end, by its position.
 use Rattle.std.specs.Prelude.{◌≡◌, ℕ, ◌≤◌, ◌<◌, Bool, true, false, [], ◌∷◌, ◌++◌, Option, Some, None}
 use Rattle.app_law.specs.Positions.{below, from_on, IsPast}
 use Rattle.output_gate.specs.declared.kept.KeptOut.{KeptOut}

@@ -1,3 +1,4 @@
+-- The places of a client's records tell what the log itself would: its last number, and the local of each.
 use Rattle.std.proofs.Common.{◌≡◌, ℕ, zero, suc, ◌+◌, ◌-◌, ◌<◌, ◌≤◌, ◌^◌, ◌==◌, ◌&&◌, nat_lt, true, false, cond, if◌then◌else◌, List, [], ◌∷◌, ◌++◌, length, take, Option, Some, None, refl, sym, ap, ◌∙◌, add-zero, zero-add, get_or, inl, inr, arith}
 use Rattle.std.specs.Option.{option_or, option_map, option_to_list, IfSome}
 use Rattle.std.specs.List.{cons_option, All, AllByRecursion}

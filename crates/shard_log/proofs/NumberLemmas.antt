@@ -1,3 +1,4 @@
+-- A client's numbers in a log run on by one from its first, also with one record more.
 use Rattle.std.proofs.Common.{◌≡◌, ℕ, zero, suc, ◌+◌, ◌==◌, List, [], ◌∷◌, ◌++◌, length, take, drop, Option, Some, None, unwrap_or, refl, sym, ap, ◌∙◌, append-nil, add-zero, inl, inr, arith}
 use Rattle.std.specs.Option.{option_or, option_map, option_to_list}
 use Rattle.std.specs.List.{cons_option}

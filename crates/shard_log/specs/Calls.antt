@@ -1,3 +1,4 @@
+-- The calls that change a log, and the laws of the logs that they make.
 use Rattle.std.specs.Prelude.{◌≡◌, ℕ, ◌+◌, zero, suc, List, [], ◌∷◌, ◌++◌, length, take, slice_get, Some}
 use Rattle.std.specs.List.{AllByRecursion}
 use Rattle.record_codec.specs.declared.record.Record.{Record}

@@ -1,3 +1,4 @@
+-- That the indexes of all clients fit a log.
 use Rattle.std.specs.Prelude.{◌≡◌, ℕ, ◌<◌, List, [], slice_index_or}
 use Rattle.std.specs.List.{All}
 use Rattle.record_codec.specs.declared.record.Record.{Record}

@@ -1,3 +1,4 @@
+-- The held records of all shards.
 use Rattle.std.specs.Prelude.{ℕ, Option, List, map, get_or, slice_set, replicate}
 use Rattle.record_codec.specs.declared.record.Record.{Record}
 use Rattle.spec_delivery.specs.declared.put.Put.{Put}

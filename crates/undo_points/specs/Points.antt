@@ -1,3 +1,4 @@
+-- The held undos by position, and the states to which they take one back.
 use Rattle.std.specs.Prelude.{◌≡◌, ℕ, List, [], ◌∷◌, ◌++◌}
 use Rattle.record_codec.specs.declared.record.Record.{Record}
 use Rattle.app_law.specs.Positions.{below, from_on}

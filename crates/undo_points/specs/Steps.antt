@@ -1,3 +1,4 @@
+-- What the steps of going back and forgetting do: one point at an end, by its position.
 use Rattle.std.specs.Prelude.{◌≡◌, ℕ, ◌≤◌, ◌<◌, Bool, true, false, ◌∷◌, Option, Some, None}
 use Rattle.app_law.specs.Positions.{from_on, IsPast}
 use Rattle.undo_points.specs.Points.{Points, point_position, pushed}
