@@ -1,3 +1,10 @@
+pub mod Lists
+pub mod Places
+pub mod Walks
 pub mod Copies
 pub mod SendLemmas
-pub mod SoundTurns
+pub mod Limits
+pub mod Telling
+pub mod Kept
+pub mod Within
+pub mod WithinAgreed
