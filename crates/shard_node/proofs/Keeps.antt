@@ -1,195 +1,144 @@
--- What each rule of a replica's table keeps, of a turn that began at a node.
-use Rattle.std.proofs.Common.{◌≡◌, ℕ, zero, suc, ◌+◌, ◌<◌, ◌≤◌, ◌^◌, Bool, true, false, List, [], ◌∷◌, ◌++◌, length, map, replicate, Option, Some, None, refl, ap, subst, ◌∙◌, arith}
-use Rattle.std.specs.Prelude.{if◌then◌else◌, max, min}
-use Rattle.std.specs.List.{AllByRecursion, fold, range_with_len, slice_get}
-use Rattle.std.specs.Option.{option_map_or}
-use Rattle.std.proofs.lemmas.Bool.{ltb-true, le-leb}
-use Rattle.std.proofs.lemmas.List.{length-append}
+-- What each place of a replica's table keeps: a replica stays one, what it stores and sends is valid, and its items lead to what a restart leaves.
+use Rattle.std.proofs.Common.{◌≡◌, ℕ, ◌+◌, ◌-◌, ◌≤◌, ◌^◌, List, [], ◌∷◌, ◌++◌, length, replicate, Some, refl, ap, ◌∙◌, arith}
+use Rattle.std.specs.Prelude.{min}
+use Rattle.std.specs.List.{AllByRecursion, slice_get}
+use Rattle.std.proofs.lemmas.Bool.{le-leb}
+use Rattle.std.proofs.lemmas.Option.{slice_get_within}
+use Rattle.std.proofs.lemmas.List.{length-append, length-replicate}
 use Rattle.spec_base.specs.Spelling.{IsValidNode}
 use Rattle.record_codec.specs.Records.{IsValidRecord}
-use Rattle.record_codec.specs.Entries.{IsValidEntry}
-use Rattle.msg_wire.specs.Valid.{IsValidMessage, IsValidItem, IsValidWhat}
-use Rattle.node_rules.specs.Names.{NodeId, Entry, Record, What, Item, Mark}
+use Rattle.msg_wire.specs.Valid.{IsValidItem, IsValidWhat, IsValidEvent}
+use Rattle.msg_wire.specs.Nodes.{number_of, sequencers_of, consumers_of}
+use Rattle.node_rules.specs.Names.{NodeId, Record, What, Item, Event}
+use Rattle.node_rules.specs.Names.records
 use Rattle.node_rules.specs.Names.items
-use Rattle.node_rules.specs.Nodes.{Node, has_slot, knowing, with_own}
-use Rattle.node_rules.specs.Turns.{Turn, message_to, send, send_all, show, put_base, put_own, store, own_of}
-use Rattle.shard_node.specs.States.{ReplicaState, durable_to, with_promised, with_log, put_log, log_of}
+use Rattle.node_rules.specs.Names.whats
+use Rattle.node_rules.specs.Nodes.{Base, Node, with_own}
+use Rattle.node_rules.specs.Sound.{IsBase}
+use Rattle.node_rules.proofs.Lists.{all_append, all_replicate, all_at}
+use Rattle.node_rules.proofs.Limits.{node_valid, base_reset, number_limit, valid_sequencers, valid_consumers, locals_limit, placed_limit}
+use Rattle.node_rules.proofs.Telling.{with_base}
+use Rattle.node_rules.proofs.Kept.{comes_valid, told_valid, Keeping, Keeps}
+use Rattle.shard_node.specs.States.{ReplicaState, with_log}
 use Rattle.shard_node.specs.Restart.{fit, fit_records, reset_of}
 use Rattle.shard_node.specs.Sound.{IsReplica}
-use Rattle.shard_node.proofs.Limits.{valid_node}
-use Rattle.shard_node.proofs.Restarts.{fits_one, fits_known, fits_records}
+use Rattle.shard_node.proofs.Restarts.{same-fold, fits_known, fits_records}
+use Rattle.shard_node.proofs.Places.{Says, Stores, Changes, reports, copies, tells_length, promises, fetched, confirms, acks_again, acks_fate, fates, appends, copied, fills, holds, covers, cuts, promises_on, replica_places}
 
--- the node is a replica still, what the turn stores and sends is valid, and a restart would leave what the stored items leave
-pub record IsKept (n : Node ReplicaState) (t : Turn ReplicaState) : Type 0 where
-  pub sound : IsReplica t.state
-  pub stored : reset_of (fold fit n t.stable) ≡ reset_of t.state
-  pub stable : AllByRecursion IsValidItem t.stable
-  pub sends : AllByRecursion IsValidMessage t.sends
+abbrev pub replica_keeping : Keeping ReplicaState
+replica_keeping = record { Is = IsReplica; fit = fit; Leads = λ a s. reset_of a ≡ reset_of s }
 
--- ---- ways to put rules together
+-- ---- replicas
 
-pub kept_if : (n : Node ReplicaState) (b : Bool) (t s : Turn ReplicaState) → (b ≡ true → IsKept n t) → (b ≡ false → IsKept n s) → IsKept n (if b then t else s)
-kept_if n true t s first second = first refl
-kept_if n false t s first second = second refl
+pub replica_on : (base : Base) (s : Node ReplicaState) → IsBase base → IsReplica s → IsReplica (with_base base s)
+replica_on base s sound is = record { base = sound; records = is.records; room = is.room; durable = is.durable }
 
-pub kept_option : {X : Type 0} → (n : Node ReplicaState) (f : X → Turn ReplicaState) (o : Option X) (t : Turn ReplicaState) → ((x : X) → o ≡ Some x → IsKept n (f x)) → IsKept n t → IsKept n (option_map_or f o t)
-kept_option n f None t one is = is
-kept_option n f (Some x) t one is = one x refl
-
-pub kept_fold : {X : Type 0} → (n : Node ReplicaState) (f : Turn ReplicaState → X → Turn ReplicaState) (xs : List X) (t : Turn ReplicaState)
-    → ((s : Turn ReplicaState) (x : X) → IsKept n s → IsKept n (f s x)) → IsKept n t → IsKept n (fold f t xs)
-kept_fold n f [] t one is = is
-kept_fold n f (x ∷ xs) t one is = kept_fold n f xs (f t x) one (one t x is)
-
-pub kept_range : (n : Node ReplicaState) (f : Turn ReplicaState → ℕ → Turn ReplicaState) (from count limit : ℕ) (t : Turn ReplicaState)
-    → ((s : Turn ReplicaState) (local : ℕ) → local < limit → IsKept n s → IsKept n (f s local)) → from + count ≤ limit → IsKept n t → IsKept n (fold f t (range_with_len from count))
-kept_range n f from zero limit t one fits is = is
-kept_range n f from (suc count) limit t one fits is = kept_range n f (from + 1) count limit (f t from) one (omega arith) (one t from (omega arith) is)
-
--- ---- lists
-
-pub all_append : {X : Type 0} → (P : X → Type 0) (xs ys : List X) → AllByRecursion P xs → AllByRecursion P ys → AllByRecursion P (xs ++ ys)
-all_append P [] ys first second = second
-all_append P (x ∷ xs) ys first second = (first.0, all_append P xs ys first.1 second)
-
-pub all_push : {X : Type 0} → (P : X → Type 0) (xs : List X) (x : X) → AllByRecursion P xs → P x → AllByRecursion P (xs ++ x ∷ [])
-all_push P xs x all here = all_append P xs (x ∷ []) all (here, tt)
-
-pub all_replicate : {X : Type 0} → (P : X → Type 0) (count : ℕ) (x : X) → P x → AllByRecursion P (replicate count x)
-all_replicate P zero x here = tt
-all_replicate P (suc count) x here = (here, all_replicate P count x here)
-
-pub all_at : {X : Type 0} → (P : X → Type 0) (xs : List X) (i : ℕ) (x : X) → AllByRecursion P xs → slice_get xs i ≡ Some x → P x
-all_at P [] i x all e = absurd (cc)
-all_at P (y ∷ ys) zero x all e = let same : y ≡ x = cc in subst P same all.0
-all_at P (y ∷ ys) (suc i) x all e = all_at P ys i x all.1 e
-
--- ---- what is sent and shown
-
-all_sent : (from : NodeId) (what : What) (tos : List NodeId) → IsValidNode from → IsValidWhat what → AllByRecursion IsValidNode tos
-    → AllByRecursion IsValidMessage (map (λ (to : NodeId). record { from = from; to = to; what = what }) tos)
-all_sent from what [] here said all = tt
-all_sent from what (to ∷ tos) here said all = (record { from = here; to = all.0; what = said }, all_sent from what tos here said all.1)
-
-pub named : (n : Node ReplicaState) → IsReplica n → IsValidNode n.base.me
-named n is = valid_node n.base.cfg n.base.me is.base.cfg is.base.me
-
-pub kept_send : (n : Node ReplicaState) (to : NodeId) (what : What) (t : Turn ReplicaState) → IsValidNode to → IsValidWhat what → IsKept n t → IsKept n (send to what t)
-kept_send n to what t there said is = record {
-  sound = is.sound;
-  stored = is.stored;
-  stable = is.stable;
-  sends = all_push IsValidMessage t.sends (message_to t what to) is.sends (record { from = named t.state is.sound; to = there; what = said });
+pub replica_grown : (recs : List Record) (s : Node ReplicaState) → AllByRecursion IsValidRecord recs → length s.own.log + length recs ≤ 2 ^ 48 → IsReplica s → IsReplica (with_own (with_log (s.own.log ++ recs) s.own) s)
+replica_grown recs s valid room is = record {
+  base = is.base;
+  records = all_append IsValidRecord s.own.log recs is.records valid;
+  room = omega (arith, room, length-append s.own.log recs);
+  durable = is.durable;
 }
 
-pub kept_send_all : (n : Node ReplicaState) (tos : List NodeId) (what : What) (t : Turn ReplicaState) → AllByRecursion IsValidNode tos → IsValidWhat what → IsKept n t → IsKept n (send_all tos what t)
-kept_send_all n tos what t there said is = record {
-  sound = is.sound;
-  stored = is.stored;
-  stable = is.stable;
-  sends = all_append IsValidMessage t.sends (map (message_to t what) tos) is.sends (all_sent t.state.base.me what tos (named t.state is.sound) said there);
+-- a restart leaves a replica
+pub reset_sound : (n : Node ReplicaState) → IsReplica n → IsReplica (reset_of n)
+reset_sound n is = record {
+  base = base_reset n.base is.base;
+  records = is.records;
+  room = is.room;
+  durable = locals_limit n.base (number_of n.base.me) is.base;
 }
 
-pub kept_show : (n : Node ReplicaState) (mark : Mark) (t : Turn ReplicaState) → IsKept n t → IsKept n (show mark t)
-kept_show n mark t is = record { sound = is.sound; stored = is.stored; stable = is.stable; sends = is.sends }
+-- ---- what is sent
 
--- ---- what is counted
+abbrev Goes : NodeId → What → Type 0
+Goes to what = IsValidNode to × IsValidWhat what
 
-pub kept_seen : (n : Node ReplicaState) (count : ℕ) (t : Turn ReplicaState) → count ≤ 1000000 → IsKept n t → IsKept n (put_base (record (t.state.base) { seen = max t.state.base.seen count }) t)
-kept_seen n count t most is = record {
-  sound = record {
-    base = record {
-      cfg = is.sound.base.cfg;
-      me = is.sound.base.me;
-      entries = is.sound.base.entries;
-      few = is.sound.base.few;
-      seen = omega (arith, is.sound.base.seen);
-      ticks = is.sound.base.ticks;
-    };
-    records = is.sound.records;
-    room = is.sound.room;
-    durable = is.sound.durable;
-  };
-  stored = is.stored;
-  stable = is.stable;
-  sends = is.sends;
-}
+named : (s : Node ReplicaState) → IsReplica s → IsValidNode s.base.me
+named s is = node_valid s.base.cfg s.base.me is.base.cfg is.base.me
 
-pub kept_tick : (n : Node ReplicaState) (t : Turn ReplicaState) → IsKept n t → IsKept n (put_base (record (t.state.base) { ticks = min (t.state.base.ticks + 1) (2 ^ 48) }) t)
-kept_tick n t is = record {
-  sound = record {
-    base = record {
-      cfg = is.sound.base.cfg;
-      me = is.sound.base.me;
-      entries = is.sound.base.entries;
-      few = is.sound.base.few;
-      seen = is.sound.base.seen;
-      ticks = omega arith;
-    };
-    records = is.sound.records;
-    room = is.sound.room;
-    durable = is.sound.durable;
-  };
-  stored = is.stored;
-  stable = is.stable;
-  sends = is.sends;
-}
+record_at : (s : Node ReplicaState) (local : ℕ) (rec : Record) → IsReplica s → slice_get s.own.log local ≡ Some rec → (local ≤ 2 ^ 48) × IsValidRecord rec
+record_at s local rec is at = (omega (arith, slice_get_within s.own.log local rec at, is.room), all_at IsValidRecord s.own.log local rec is.records at)
 
--- ---- what is known
+module _ (n : Node ReplicaState) (event : Event) (valid : IsValidEvent event) where
+  says_valid : (s : Node ReplicaState) (to : NodeId) (what : What) → Says n event s to what → IsReplica s → Goes to what
+  says_valid s to _ (reports _ i at) is = (all_at IsValidNode (sequencers_of s.base.cfg) i to (valid_sequencers s.base.cfg is.base.cfg) at, is.room)
+  says_valid s _ _ (copies local rec at) is = (number_limit s.base.me (named s is), record_at s local rec is at)
+  says_valid s from _ (tells_length _ local rec comes) is = ((comes_valid n event from _ comes valid).0, is.room)
+  says_valid s to _ (promises _ i position rec there why) is = (all_at IsValidNode (consumers_of s.base.cfg) i to (valid_consumers s.base.cfg is.base.cfg) there, record_at s s.own.promised rec is why.at)
+  says_valid s from _ (fetched _ local rec comes durable at) is = ((comes_valid n event from _ comes valid).0, record_at s local rec is at)
+  says_valid s _ _ (confirms local position client number body primary why) is =
+      let rec = (record_at s local (records.Data client number body) is why.at).1 in
+      (rec.0, (rec.1, placed_limit s.base (number_of s.base.me) local position is.base why.place))
+  says_valid s from _ (acks_again _ first number body local position comes low stands place) is =
+      ((comes_valid n event from _ comes valid).0, (omega (arith, low), placed_limit s.base (number_of s.base.me) local position is.base place))
+  says_valid s from _ (acks_fate _ least next local position why below stands place) is =
+      let asked = comes_valid n event from (whats.AskFate why.first least) why.comes valid in
+      (asked.0, (asked.1.1, placed_limit s.base (number_of s.base.me) local position is.base place))
+  says_valid s from _ (fates _ least next why above) is =
+      let asked = comes_valid n event from (whats.AskFate why.first least) why.comes valid in
+      (asked.0, omega (arith, above, asked.1.1))
 
-pub kept_learned : (n : Node ReplicaState) (entry : Entry) (t : Turn ReplicaState) → has_slot t.state.base ≡ true → IsValidEntry entry → IsKept n t
-    → IsKept n (put_base (knowing entry t.state.base) (store (items.Known entry) t))
-kept_learned n entry t slot valid is = record {
-  sound = record {
-    base = record {
-      cfg = is.sound.base.cfg;
-      me = is.sound.base.me;
-      entries = all_push IsValidEntry t.state.base.known entry is.sound.base.entries valid;
-      few = omega (arith, ltb-true _ _ slot, length-append t.state.base.known (entry ∷ []));
-      seen = is.sound.base.seen;
-      ticks = is.sound.base.ticks;
-    };
-    records = is.sound.records;
-    room = is.sound.room;
-    durable = is.sound.durable;
-  };
-  stored = fits_one n t.state (record (t.state) { base = knowing entry t.state.base }) t.stable (items.Known entry) is.stored (ap reset_of (fits_known t.state entry slot));
-  stable = all_push IsValidItem t.stable (items.Known entry) is.stable valid;
-  sends = is.sends;
-}
+  -- ---- what is stored
 
--- ---- what the log has
+  stores_valid : (s : Node ReplicaState) (item : Item) (own : ReplicaState) → Stores n event s item own → IsReplica s → IsValidItem item × IsReplica (with_own own s)
+  stores_valid s _ _ (appends from first number body comes there low room expected) is =
+      let asked = comes_valid n event from (whats.Append first number body) comes valid in
+      let rec : Record = records.Data (number_of from) number body in
+      let fits : IsValidRecord rec = (number_limit from asked.0, omega (arith, low), asked.1.2) in
+      (fits, replica_grown (rec ∷ []) s (fits, tt) (omega (arith, room)) is)
+  stores_valid s _ _ (copied from rec comes room) is =
+      let fits = (comes_valid n event from (whats.Replicate (length s.own.log) rec) comes valid).1.1 in
+      (fits, replica_grown (rec ∷ []) s (fits, tt) (omega (arith, room)) is)
+  stores_valid s _ _ (fills from wanted comes there short) is =
+      let few : wanted ≤ 2 ^ 48 = (comes_valid n event from (whats.Fill wanted) comes valid).1 in
+      let count : ℕ = min (wanted - length s.own.log) 64 in
+      ((omega (arith, short), omega arith), replica_grown (replicate count records.Noop) s (all_replicate IsValidRecord count records.Noop tt) (omega (arith, short, few, length-replicate count records.Noop)) is)
 
-pub kept_records : (n : Node ReplicaState) (item : Item) (recs : List Record) (t : Turn ReplicaState) → ((m : Node ReplicaState) → fit m item ≡ fit_records recs m)
-    → AllByRecursion IsValidRecord recs → length (log_of t) + length recs ≤ 2 ^ 48 → IsValidItem item → IsKept n t → IsKept n (put_log (log_of t ++ recs) (store item t))
-kept_records n item recs t fitting each room valid is = record {
-  sound = record {
-    base = is.sound.base;
-    records = all_append IsValidRecord t.state.own.log recs is.sound.records each;
-    room = omega (arith, room, length-append t.state.own.log recs);
-    durable = is.sound.durable;
-  };
-  stored =
-      fits_one n t.state (with_own (with_log (t.state.own.log ++ recs) t.state.own) t.state) t.stable item is.stored
-      (ap reset_of (fitting t.state ∙ fits_records t.state recs (le-leb _ _ room)));
-  stable = all_push IsValidItem t.stable item is.stable valid;
-  sends = is.sends;
-}
+  -- what a restart leaves of a node is what it leaves after the item
+  leads_grown : (item : Item) (recs : List Record) (a s : Node ReplicaState) → ((m : Node ReplicaState) → fit m item ≡ fit_records recs m) → IsReplica (with_own (with_log (s.own.log ++ recs) s.own) s) → reset_of a ≡ reset_of s
+      → reset_of (fit a item) ≡ reset_of (with_own (with_log (s.own.log ++ recs) s.own) s)
+  leads_grown item recs a s fitting is leads =
+      same-fold a s (item ∷ []) leads ∙ ap reset_of (fitting s ∙ fits_records s recs (le-leb _ _ (omega (arith, length-append s.own.log recs, is.room))))
 
--- ---- what is durable and promised
+  leads_stored : (a s : Node ReplicaState) (item : Item) (own : ReplicaState) → Stores n event s item own → IsReplica s → reset_of a ≡ reset_of s → reset_of (fit a item) ≡ reset_of (with_own own s)
+  leads_stored a s _ _ (appends from first number body comes there low room expected) is leads =
+      let kept = stores_valid s _ _ (appends from first number body comes there low room expected) is in
+      leads_grown (items.Taken (records.Data (number_of from) number body)) (records.Data (number_of from) number body ∷ []) a s (λ m. refl) kept.1 leads
+  leads_stored a s _ _ (copied from rec comes room) is leads = leads_grown (items.Taken rec) (rec ∷ []) a s (λ m. refl) (stores_valid s _ _ (copied from rec comes room) is).1 leads
+  leads_stored a s _ _ (fills from wanted comes there short) is leads =
+      let count : ℕ = min (wanted - length s.own.log) 64 in
+      leads_grown (items.Noops count) (replicate count records.Noop) a s (λ m. refl) (stores_valid s _ _ (fills from wanted comes there short) is).1 leads
 
-pub kept_durable : (n : Node ReplicaState) (count : ℕ) (t : Turn ReplicaState) → count ≤ 2 ^ 48 → IsKept n t → IsKept n (put_own (durable_to count (own_of t)) t)
-kept_durable n count t most is = record {
-  sound = record { base = is.sound.base; records = is.sound.records; room = is.sound.room; durable = omega (arith, is.sound.durable) };
-  stored = is.stored;
-  stable = is.stable;
-  sends = is.sends;
-}
+  -- ---- what is durable and promised
 
-pub kept_promised : (n : Node ReplicaState) (count : ℕ) (t : Turn ReplicaState) → IsKept n t → IsKept n (put_own (with_promised count (own_of t)) t)
-kept_promised n count t is = record {
-  sound = record { base = is.sound.base; records = is.sound.records; room = is.sound.room; durable = is.sound.durable };
-  stored = is.stored;
-  stable = is.stable;
-  sends = is.sends;
-}
+  changes_kept : (s : Node ReplicaState) (own : ReplicaState) → Changes n event s own → IsReplica s → IsReplica (with_own own s)
+  changes_kept s _ (holds from len comes) is = record { base = is.base; records = is.records; room = is.room; durable = omega (arith, is.durable, is.room) }
+  changes_kept s _ (covers before entry learned) is = record { base = is.base; records = is.records; room = is.room; durable = omega (arith, is.durable, locals_limit s.base (number_of s.base.me) is.base) }
+  changes_kept s _ (cuts first why) is = record { base = is.base; records = is.records; room = is.room; durable = is.durable }
+  changes_kept s _ (promises_on durable primary free) is = record { base = is.base; records = is.records; room = is.room; durable = is.durable }
+
+  leads_changed : (a s : Node ReplicaState) (own : ReplicaState) → Changes n event s own → reset_of a ≡ reset_of s → reset_of a ≡ reset_of (with_own own s)
+  leads_changed a s _ (holds from len comes) leads = leads
+  leads_changed a s _ (covers before entry learned) leads = leads
+  leads_changed a s _ (cuts first why) leads = leads
+  leads_changed a s _ (promises_on durable primary free) leads = leads
+
+  pub replica_keeps : Keeps replica_places replica_keeping n event
+  replica_keeps = record {
+    base = λ s is. is.base;
+    resets = λ is. (reset_sound n is, λ a leads. leads);
+    learns = λ s entry told is. told_valid n event s entry told valid;
+    knows = λ s entry base is. replica_on _ s base is;
+    sees = λ s count base is. replica_on _ s base is;
+    ticks = λ s base is. replica_on _ s base is;
+    says = says_valid;
+    stores = stores_valid;
+    changes = changes_kept;
+    leads_known = λ a s entry slot leads. same-fold a s (items.Known entry ∷ []) leads ∙ ap reset_of (fits_known s entry slot);
+    leads_seen = λ a s count leads. leads;
+    leads_ticked = λ a s leads. leads;
+    leads_stored = leads_stored;
+    leads_changed = leads_changed;
+  }

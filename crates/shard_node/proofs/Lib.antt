@@ -1,8 +1,11 @@
 pub mod Limits
+pub mod Places
 pub mod Restarts
 pub mod Keeps
-pub mod Tables
+pub mod Walk
 pub mod Lives
+pub mod Messages
+pub mod Within
 pub mod Loops
 pub mod Promising
 pub mod Fits

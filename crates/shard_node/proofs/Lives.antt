@@ -1,52 +1,41 @@
 -- Every life of valid events: its node is a replica, its steps are valid, and its stored items give what a restart leaves.
-use Rattle.std.proofs.Common.{◌≡◌, List, [], ◌∷◌, refl, sym, ap, ◌∙◌, arith}
-use Rattle.std.specs.List.{AllByRecursion, fold}
-use Rattle.std.proofs.lemmas.List.Sums.{fold-append}
+use Rattle.std.proofs.Common.{List, refl, sym, arith}
+use Rattle.std.specs.List.{AllByRecursion}
 use Rattle.msg_wire.specs.Valid.{IsValidConfig, IsNodeOf, IsValidEvent}
 use Rattle.node_rules.specs.Names.{NodeId, Config, Event}
-use Rattle.node_rules.specs.Turns.{Turn}
-use Rattle.node_rules.specs.Lives.{Life, lived_on}
+use Rattle.node_rules.specs.Nodes.{Node}
+use Rattle.node_rules.specs.Turns.{started}
+use Rattle.node_rules.proofs.Limits.{base_fresh}
+use Rattle.node_rules.proofs.Kept.{IsKept, IsLife, lives, kept_valid, keeping}
 use Rattle.shard_node.specs.States.{ReplicaState}
-use Rattle.shard_node.specs.Steps.{replica_step}
-use Rattle.shard_node.specs.Restart.{fit, fresh_node, reset_of}
+use Rattle.shard_node.specs.Steps.{handle, replica_step}
+use Rattle.shard_node.specs.Restart.{fresh_node}
 use Rattle.shard_node.specs.Sound.{IsReplica}
 use Rattle.shard_node.specs.Laws.{replica_life, RestartIsTheItems, StepsAreValid}
-use Rattle.shard_node.proofs.Restarts.{same-fold}
-use Rattle.shard_node.proofs.Keeps.{IsKept}
-use Rattle.shard_node.proofs.Tables.{kept_step}
+use Rattle.shard_node.proofs.Places.{replica_places}
+use Rattle.shard_node.proofs.Walk.{replica_handled, replica_walk}
+use Rattle.shard_node.proofs.Keeps.{replica_keeping, replica_keeps}
 
--- what holds of a life so far
-pub record IsLife (cfg : Config) (me : NodeId) (life : Life ReplicaState) : Type 0 where
-  pub sound : IsReplica life.node
-  pub stored : reset_of (fold fit (fresh_node cfg me) life.stored) ≡ reset_of life.node
+-- what an event does by itself keeps, and so does each step
+pub kept_handle : (n : Node ReplicaState) (event : Event) → IsReplica n → IsValidEvent event → IsKept replica_keeping n (handle event (started n))
+kept_handle n event is valid = replica_handled (IsKept replica_keeping n) n event (keeping replica_places replica_keeping n event (replica_keeps n event valid) valid is)
+
+pub kept_step : (n : Node ReplicaState) (event : Event) → IsReplica n → IsValidEvent event → IsKept replica_keeping n (replica_step n event)
+kept_step n event is valid = replica_walk (IsKept replica_keeping n) n event (keeping replica_places replica_keeping n event (replica_keeps n event valid) valid is)
 
 pub fresh_sound : (cfg : Config) (me : NodeId) → IsValidConfig cfg → IsNodeOf cfg me → IsReplica (fresh_node cfg me)
 fresh_sound cfg me valid here = record {
-  base = record { cfg = valid; me = here; entries = tt; few = omega arith; seen = omega arith; ticks = omega arith };
+  base = base_fresh cfg me valid here;
   records = tt;
   room = omega arith;
   durable = omega arith;
 }
 
-lived : (cfg : Config) (me : NodeId) (life : Life ReplicaState) (t : Turn ReplicaState) → IsLife cfg me life → IsKept life.node t → IsLife cfg me (lived_on life t)
-lived cfg me life t is kept = record {
-  sound = kept.sound;
-  stored =
-      ap reset_of (fold-append fit (fresh_node cfg me) life.stored t.stable)
-      ∙ same-fold (fold fit (fresh_node cfg me) life.stored) life.node t.stable is.stored
-      ∙ kept.stored;
-}
-
-lives : (cfg : Config) (me : NodeId) (events : List Event) → IsValidConfig cfg → IsNodeOf cfg me → AllByRecursion IsValidEvent events → IsLife cfg me (replica_life cfg me events)
-lives cfg me [] valid here each = record { sound = fresh_sound cfg me valid here; stored = refl }
-lives cfg me (event ∷ events) valid here each =
-    let before = lives cfg me events valid here each.1 in
-    lived cfg me (replica_life cfg me events) (replica_step (replica_life cfg me events).node event) before (kept_step (replica_life cfg me events).node event before.sound each.0)
+life : (cfg : Config) (me : NodeId) (events : List Event) → IsValidConfig cfg → IsNodeOf cfg me → AllByRecursion IsValidEvent events → IsLife replica_keeping (fresh_node cfg me) (replica_life cfg me events)
+life cfg me events valid here each = lives replica_keeping replica_step (fresh_node cfg me) events kept_step (fresh_sound cfg me valid here) refl each
 
 pub restart_is_the_items : RestartIsTheItems
-restart_is_the_items cfg me events valid here each = sym (lives cfg me events valid here each).stored
+restart_is_the_items cfg me events valid here each = sym (life cfg me events valid here each).leads
 
 pub steps_are_valid : StepsAreValid
-steps_are_valid cfg me events event valid here each next =
-    let kept = kept_step (replica_life cfg me events).node event (lives cfg me events valid here each).sound next in
-    record { stable = kept.stable; sends = kept.sends }
+steps_are_valid cfg me events event valid here each next = kept_valid replica_keeping _ _ (kept_step (replica_life cfg me events).node event (life cfg me events valid here each).is next)

@@ -12,7 +12,7 @@ use Rattle.node_rules.specs.Turns.{Turn, own_of, put_own}
 use Rattle.shard_node.specs.States.{ReplicaState, log_of, with_promised}
 use Rattle.shard_node.specs.Promises.{lease_of, promise_record, promise, promise_some}
 
-promise_base : (position : Option ℕ) (rec : Option Record) (local : ℕ) (t : Turn ReplicaState) → (promise_record position rec local t).state.base ≡ t.state.base
+pub promise_base : (position : Option ℕ) (rec : Option Record) (local : ℕ) (t : Turn ReplicaState) → (promise_record position rec local t).state.base ≡ t.state.base
 promise_base (Some position) (Some rec) local t = refl
 promise_base (Some position) None local t = refl
 promise_base None rec local t = refl

@@ -7,4 +7,5 @@ pub mod Steps
 pub mod Restart
 pub mod Sound
 pub mod Laws
+pub mod Messages
 pub mod Rows

@@ -1,13 +1,13 @@
 //! A replica's step: each event with its rules, and the promises that end the step.
 
-ghost use Rattle.std.specs.Prelude.{◌≡◌, ◌<◌, ◌≤◌, ◌^◌, IfOk, OnOk};
+ghost use Rattle.std.specs.Prelude.{◌≡◌, ◌<◌, ◌≤◌, OnOk};
 ghost use Rattle.record_codec.specs.Entries.{IsValidEntry};
 ghost use Rattle.msg_wire.specs.Valid.{IsValidMessage, IsValidEvent};
-ghost use Rattle.msg_wire.specs.Steps.{IsValidStep};
-ghost use Rattle.node_rules.specs.Turns.{turn_of};
+ghost use Rattle.node_rules.specs.Names.events;
+ghost use Rattle.node_rules.specs.Turns.{turn_of, empty_step};
 ghost use Rattle.node_rules.specs.Rules.{heed, learn_next, decided};
 ghost use Rattle.shard_node.specs.Learning.{on_learned};
-ghost use Rattle.shard_node.specs.Steps.{hear, handle, replica_step};
+ghost use Rattle.shard_node.specs.Steps.{hear, replica_step};
 ghost use Rattle.shard_node.specs.Sound.{IsReplica};
 
 use crate::learning::on_learned;
@@ -17,41 +17,47 @@ use crate::restart::reset;
 use crate::rules::{hear_ask_fate, hear_fetch, hear_replicated, on_tick};
 use crate::state::{Replica, covered_of};
 use msg_wire::{Event, Message, Step, What};
-use node_rules::empty_step;
 use quota_table::{Entry, OutOfMemory};
 use spec_base::NodeId;
-use std::alloc::Global;
 
-/// The step of an event. A restart leaves what the stored items give; a primary's step of any other event ends with
-/// its promises.
-pub fn react(replica: &mut Replica, alloc: Global, event: &Event) -> Result<Step, OutOfMemory>
+/// The step of an event, written into a step that gives nothing yet. A restart leaves what the stored items give; a
+/// primary's step of any other event ends with its promises.
+pub fn react(replica: &mut Replica, event: &Event, out: &mut Step) -> Result<(), OutOfMemory>
     requires sound { IsReplica replica.old }
     requires valid { IsValidEvent event.now }
-    ensures turn { IfOk result (λ out. turn_of replica.new out ≡ replica_step replica.old event.now) }
-    ensures valid { IfOk result (λ out. IsValidStep out) }
-    ensures sound { OnOk result (IsReplica replica.new) }
-{
-    let mut out = empty_step(alloc);
-    if let Event::Restart = event {
-        reset(replica);
-        return Ok(out);
-    }
-    handle(replica, event, &mut out)?;
-    promise_all(replica, &mut out)?;
-    Ok(out)
-}
-
-/// What an event does by itself; a restart is no such event.
-fn handle(replica: &mut Replica, event: &Event, out: &mut Step) -> Result<(), OutOfMemory>
-    requires valid { IsValidEvent event.now }
-    requires durable { replica.old.own.durable ≤ 2 ^ 48 }
-    ensures { OnOk result (turn_of replica.new out.new ≡ handle event.now (turn_of replica.old out.old)) }
+    requires empty { out.old ≡ empty_step }
+    ensures { OnOk result (turn_of replica.new out.new ≡ replica_step replica.old event.now) }
 {
     match event {
-        Event::Deliver(message) => heed(replica, message, out),
-        Event::Tick => on_tick(replica, out),
-        Event::Restart | Event::Submit { .. } | Event::Command(_) => Ok(()),
+        Event::Deliver(message) => deliver(replica, message, out),
+        Event::Tick => tick(replica, out),
+        Event::Restart => {
+            reset(replica);
+            Ok(())
+        }
+        Event::Submit { .. } | Event::Command(_) => promise_all(replica, out),
     }
+}
+
+/// The step of a message that comes.
+pub fn deliver(replica: &mut Replica, message: &Message, out: &mut Step) -> Result<(), OutOfMemory>
+    requires sound { IsReplica replica.old }
+    requires valid { IsValidMessage message.now }
+    requires empty { out.old ≡ empty_step }
+    ensures { OnOk result (turn_of replica.new out.new ≡ replica_step replica.old (events.Deliver message.now)) }
+{
+    heed(replica, message, out)?;
+    promise_all(replica, out)
+}
+
+/// The step of a tick.
+fn tick(replica: &mut Replica, out: &mut Step) -> Result<(), OutOfMemory>
+    requires sound { IsReplica replica.old }
+    requires empty { out.old ≡ empty_step }
+    ensures { OnOk result (turn_of replica.new out.new ≡ replica_step replica.old events.Tick) }
+{
+    on_tick(replica, out)?;
+    promise_all(replica, out)
 }
 
 /// A message that comes. One that is not heeded does nothing by itself.

@@ -1,45 +1,22 @@
 //! Lives of replicas as tables: what comes, and beside it what the step gives.
 
-ghost use Rattle.std.specs.Prelude.{◌≡◌, false, IfOk, IsTrue, OnOk};
+ghost use Rattle.std.specs.Prelude.{◌≡◌, false, IfOk, OnOk};
 ghost use Rattle.spec_base.specs.Spelling.{IsValidNode};
-ghost use Rattle.msg_wire.specs.Nodes.{is_replica};
-ghost use Rattle.msg_wire.specs.Valid.{IsNodeOf, IsValidConfig, IsValidEvent};
+ghost use Rattle.msg_wire.specs.Valid.{IsValidConfig, IsValidEvent};
 
 use crate::ShardNode;
-use msg_wire::{Config, Event, Message, decode_items};
-use spec_base::{NodeId, unspell};
+use life_tables::{Turn, clusters, event, told};
+use msg_wire::{Config, Event, decode_items};
+use quota_table::OutOfMemory;
+use spec_base::{NodeId, Side};
 use std::alloc::Global;
 use std::process::Abort;
 use std::test::Fail;
 
-mod cluster;
-mod comes;
 mod lives;
 mod long;
 mod pair;
 mod single;
-mod told;
-
-use comes::{Comes, said};
-use told::told;
-
-/// The node that it comes from, if any, what comes, and what the step gives, a line for each item, send and mark.
-type Turn<'a> = (&'a str, Comes, &'a str);
-
-fn event(alloc: Global, me: NodeId, from: &str, comes: &Comes) -> Result<Event, Fail>
-    requires { IsValidNode me }
-    ensures { IfOk result IsValidEvent }
-{
-    match comes {
-        Comes::Tick => Ok(Event::Tick),
-        Comes::Restart => Ok(Event::Restart),
-        message => {
-            let from = unspell(from.as_bytes()).ok_or("no node")?;
-            let what = said(alloc, message)?;
-            Ok(Event::Deliver(Message { from, to: me, what }))
-        }
-    }
-}
 
 /// Takes a step, which gives what is wanted.
 fn take(
@@ -78,43 +55,78 @@ fn live(
     Ok(())
 }
 
+/// The clusters of the lives.
+#[derive(Clone, Copy)]
+enum Cluster {
+    Single,
+    Pair,
+    Trio,
+}
+
+fn config(alloc: Global, cluster: Cluster) -> Result<Config, OutOfMemory>
+    ensures { IfOk result IsValidConfig }
+{
+    match cluster {
+        Cluster::Single => clusters::single(alloc),
+        Cluster::Pair => clusters::pair(alloc),
+        Cluster::Trio => clusters::trio(alloc),
+    }
+}
+
 /// The length of the log, how much of it is durable, and how many entries are known.
 type Counts = (u64, u64, u32);
 
-/// A replica that has and knows nothing takes these turns, and has so much then.
-fn life(
-    rt: &impl Abort,
-    alloc: Global,
-    cfg: &Config,
-    me: NodeId,
-    turns: &[Turn],
-) -> Result<Counts, Fail>
+/// The life of a replica.
+#[derive(Clone, Copy)]
+struct Life<'a> {
+    name: &'a str,
+    cluster: Cluster,
+    shard: u8,
+    side: Side,
+    /// The bytes of the vault that it begins with; none: it has and knows nothing.
+    stored: &'a [u8],
+    turns: &'a [Turn<'a>],
+    /// What it has after the turns.
+    counts: Counts,
+}
+
+/// The replica at the beginning of its life.
+fn born(alloc: Global, cfg: &Config, life: &Life) -> Result<ShardNode, Fail>
     requires cfg { IsValidConfig cfg.now }
-    requires me { IsNodeOf cfg.now me }
-    requires replica { IsTrue (is_replica me) }
-    requires node { IsValidNode me }
+    ensures { IfOk result (λ core. core.spent ≡ false) }
 {
-    let mut node = ShardNode::new(alloc, cfg, me)?;
-    live(rt, alloc, &mut node, me, turns)?;
+    if life.shard >= cfg.shards || life.shard > 5 {
+        return Err("no such shard".into());
+    }
+    let me = NodeId::Shard(life.shard, life.side);
+    if life.stored.is_empty() {
+        return Ok(ShardNode::new(alloc, cfg, me)?);
+    }
+    let items = decode_items(alloc, life.stored)?;
+    Ok(ShardNode::restart(alloc, cfg, me, &items)?)
+}
+
+/// Takes the turns of a life, and gives what the replica has then.
+fn lived(rt: &impl Abort, alloc: Global, life: &Life) -> Result<Counts, Fail> {
+    if life.shard > 5 {
+        return Err("no such shard".into());
+    }
+    let cfg = config(alloc, life.cluster)?;
+    let mut node = born(alloc, &cfg, life)?;
+    let me = NodeId::Shard(life.shard, life.side);
+    live(rt, alloc, &mut node, me, life.turns)?;
     Ok((node.len(), node.durable(), node.known().count()))
 }
 
-/// So does a replica that these bytes of a vault give.
-fn second_life(
-    rt: &impl Abort,
-    alloc: Global,
-    cfg: &Config,
-    me: NodeId,
-    stored: &[u8],
-    turns: &[Turn],
-) -> Result<Counts, Fail>
-    requires cfg { IsValidConfig cfg.now }
-    requires me { IsNodeOf cfg.now me }
-    requires replica { IsTrue (is_replica me) }
-    requires node { IsValidNode me }
-{
-    let items = decode_items(alloc, stored)?;
-    let mut node = ShardNode::restart(alloc, cfg, me, &items)?;
-    live(rt, alloc, &mut node, me, turns)?;
-    Ok((node.len(), node.durable(), node.known().count()))
+/// All lives that stand as tables.
+const LIVES: [&[Life]; 3] = [single::LIVES, pair::LIVES, lives::LIVES];
+
+#[test]
+fn replicas_live_by_the_tables(rt: HostRuntime) -> Result<(), Fail> {
+    for lives in LIVES {
+        for life in lives {
+            assert_eq!(rt; lived(&rt, rt.alloc(), life)?, life.counts, "{}", life.name);
+        }
+    }
+    Ok(())
 }

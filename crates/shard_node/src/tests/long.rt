@@ -5,10 +5,10 @@ ghost use Rattle.spec_base.specs.Spelling.{IsValidNode};
 ghost use Rattle.msg_wire.specs.Nodes.{is_replica};
 ghost use Rattle.msg_wire.specs.Valid.{IsNodeOf, IsValidConfig};
 
-use super::cluster::single;
-use super::comes::Comes::{self, *};
-use super::event;
 use crate::ShardNode;
+use life_tables::Comes::{self, *};
+use life_tables::clusters::single;
+use life_tables::event;
 use msg_wire::Config;
 use spec_base::{NodeId, Side};
 use std::alloc::Global;

@@ -1,9 +1,9 @@
 //! The smallest cluster: a record's way, filled places, and restarts.
 
-use super::cluster::single;
-use super::comes::Comes::*;
-use super::{Turn, life, second_life};
-use spec_base::{NodeId, Side};
+use super::{Cluster, Life, lived};
+use life_tables::Comes::*;
+use life_tables::{Turn, Value};
+use spec_base::Side;
 use std::alloc::{AllocError, Global};
 use std::fmt::Write;
 use std::test::Fail;
@@ -13,8 +13,8 @@ const PRIMARY: &[Turn] = &[
     (
         "c0",
         Append(0, 0, b"5"),
-        "item Taken { rec: Data { client: 0, number: 0, body: [53] } }\n\
-         send to s0b Replicate { local: 0, rec: Data { client: 0, number: 0, body: [53] } }\n\
+        "item Taken { rec: Data { client: 0, number: 0, body: \"5\" } }\n\
+         send to s0b Replicate { local: 0, rec: Data { client: 0, number: 0, body: \"5\" } }\n\
          send to q0 Report { len: 1 }\n",
     ),
     // It is there and not covered yet; another number leaves a gap.
@@ -30,30 +30,34 @@ const PRIMARY: &[Turn] = &[
         Tick,
         "send to q0 Learn { slot: 0 }\n\
          send to q0 Report { len: 1 }\n\
-         send to s0b Replicate { local: 0, rec: Data { client: 0, number: 0, body: [53] } }\n",
+         send to s0b Replicate { local: 0, rec: Data { client: 0, number: 0, body: \"5\" } }\n",
     ),
     (
         "s0b",
         Replicated(1),
-        "send to k0 Deliver { local: 0, rec: Data { client: 0, number: 0, body: [53] } }\n\
-         mark Promise { position: 0, rec: Data { client: 0, number: 0, body: [53] } }\n",
+        "send to k0 Deliver { local: 0, rec: Data { client: 0, number: 0, body: \"5\" } }\n\
+         mark Promise { position: 0, rec: Data { client: 0, number: 0, body: \"5\" } }\n",
     ),
     ("s0b", Replicated(1), ""),
     (
         "k0",
         Fetch(0),
-        "send to k0 Deliver { local: 0, rec: Data { client: 0, number: 0, body: [53] } }\n",
+        "send to k0 Deliver { local: 0, rec: Data { client: 0, number: 0, body: \"5\" } }\n",
     ),
     ("k0", Fetch(1), ""),
     // An entry that isn't the next one is asked for.
-    ("q0", Cut(1, 0, 1), "send to q0 Learn { slot: 0 }\n"),
     (
         "q0",
-        Cut(0, 0, 0),
+        Decided(1, 0, Value::Cut(0, 1)),
+        "send to q0 Learn { slot: 0 }\n",
+    ),
+    (
+        "q0",
+        Decided(0, 0, Value::Cut(0, 0)),
         "item Known { entry: Cut { window: 0, round: 0 } }\n\
          send to c0 Ack { number: 0, position: 0 }\n\
          send to q0 Learn { slot: 1 }\n\
-         mark Confirm { position: 0, rec: Data { client: 0, number: 0, body: [53] } }\n",
+         mark Confirm { position: 0, rec: Data { client: 0, number: 0, body: \"5\" } }\n",
     ),
     (
         "c0",
@@ -62,22 +66,12 @@ const PRIMARY: &[Turn] = &[
     ),
 ];
 
-#[test]
-fn a_primary_takes_promises_and_confirms(rt: HostRuntime) -> Result<(), Fail> {
-    let alloc = rt.alloc();
-    let me = NodeId::Shard(0, Side::Primary);
-    let cfg = single(alloc)?;
-    let counts = life(&rt, alloc, &cfg, me, PRIMARY)?;
-    assert_eq!(rt; counts, (1, 1, 1));
-    Ok(())
-}
-
 /// And at the backup.
 const BACKUP: &[Turn] = &[
     (
         "s0p",
         Replicate(0, 0, b"5"),
-        "item Taken { rec: Data { client: 0, number: 0, body: [53] } }\n\
+        "item Taken { rec: Data { client: 0, number: 0, body: \"5\" } }\n\
          send to s0p Replicated { len: 1 }\n\
          send to q0 Report { len: 1 }\n",
     ),
@@ -103,14 +97,14 @@ const BACKUP: &[Turn] = &[
     ),
     (
         "q0",
-        Cut(0, 0, 0),
+        Decided(0, 0, Value::Cut(0, 0)),
         "item Known { entry: Cut { window: 0, round: 0 } }\n\
-         mark Confirm { position: 0, rec: Data { client: 0, number: 0, body: [53] } }\n",
+         mark Confirm { position: 0, rec: Data { client: 0, number: 0, body: \"5\" } }\n",
     ),
     (
         "k0",
         Fetch(0),
-        "send to k0 Deliver { local: 0, rec: Data { client: 0, number: 0, body: [53] } }\n",
+        "send to k0 Deliver { local: 0, rec: Data { client: 0, number: 0, body: \"5\" } }\n",
     ),
     ("k0", Fetch(1), ""),
     ("", Restart, ""),
@@ -120,16 +114,6 @@ const BACKUP: &[Turn] = &[
         "send to q0 Learn { slot: 1 }\nsend to q0 Report { len: 1 }\n",
     ),
 ];
-
-#[test]
-fn a_backup_copies_and_confirms(rt: HostRuntime) -> Result<(), Fail> {
-    let alloc = rt.alloc();
-    let me = NodeId::Shard(0, Side::Backup);
-    let cfg = single(alloc)?;
-    let counts = life(&rt, alloc, &cfg, me, BACKUP)?;
-    assert_eq!(rt; counts, (1, 1, 1));
-    Ok(())
-}
 
 /// What the first 64 of the wanted places bring.
 fn filled(alloc: Global) -> Result<String, AllocError> {
@@ -146,12 +130,17 @@ fn filled(alloc: Global) -> Result<String, AllocError> {
 
 #[test]
 fn places_are_filled_64_at_once(rt: HostRuntime) -> Result<(), Fail> {
-    let alloc = rt.alloc();
-    let me = NodeId::Shard(0, Side::Primary);
-    let cfg = single(alloc)?;
-    let want = filled(alloc)?;
-    let counts = life(&rt, alloc, &cfg, me, &[("q0", Fill(100), want.as_str())])?;
-    assert_eq!(rt; counts, (64, 0, 0));
+    let want = filled(rt.alloc())?;
+    let life = Life {
+        name: "64 places at once",
+        cluster: Cluster::Single,
+        shard: 0,
+        side: Side::Primary,
+        stored: &[],
+        turns: &[("q0", Fill(100), want.as_str())],
+        counts: (64, 0, 0),
+    };
+    assert_eq!(rt; lived(&rt, rt.alloc(), &life)?, life.counts);
     Ok(())
 }
 
@@ -195,17 +184,6 @@ const FILLS: &[Turn] = &[
     ),
 ];
 
-#[test]
-fn places_are_sent_again_by_8(rt: HostRuntime) -> Result<(), Fail> {
-    let alloc = rt.alloc();
-    let me = NodeId::Shard(0, Side::Primary);
-    let cfg = single(alloc)?;
-    // 64 filled places.
-    let counts = second_life(&rt, alloc, &cfg, me, &[5, 64], FILLS)?;
-    assert_eq!(rt; counts, (66, 66, 0));
-    Ok(())
-}
-
 /// What is past the covered place is durable no longer after a restart, and promised once more.
 const RESTARTS: &[Turn] = &[
     (
@@ -240,14 +218,43 @@ const RESTARTS: &[Turn] = &[
     ),
 ];
 
-#[test]
-fn a_restart_keeps_what_is_stored(rt: HostRuntime) -> Result<(), Fail> {
-    let alloc = rt.alloc();
-    let me = NodeId::Shard(0, Side::Primary);
-    let cfg = single(alloc)?;
-    // Two filled places, and the first cut.
-    let stored = [5, 2, 3, 1, 0, 0, 0, 0, 0, 0];
-    let counts = second_life(&rt, alloc, &cfg, me, &stored, RESTARTS)?;
-    assert_eq!(rt; counts, (2, 2, 1));
-    Ok(())
-}
+pub(super) const LIVES: &[Life] = &[
+    Life {
+        name: "a primary takes promises and confirms",
+        cluster: Cluster::Single,
+        shard: 0,
+        side: Side::Primary,
+        stored: &[],
+        turns: PRIMARY,
+        counts: (1, 1, 1),
+    },
+    Life {
+        name: "a backup copies and confirms",
+        cluster: Cluster::Single,
+        shard: 0,
+        side: Side::Backup,
+        stored: &[],
+        turns: BACKUP,
+        counts: (1, 1, 1),
+    },
+    Life {
+        name: "places are sent again by 8",
+        cluster: Cluster::Single,
+        shard: 0,
+        side: Side::Primary,
+        // 64 filled places.
+        stored: &[5, 64],
+        turns: FILLS,
+        counts: (66, 66, 0),
+    },
+    Life {
+        name: "a restart keeps what is stored",
+        cluster: Cluster::Single,
+        shard: 0,
+        side: Side::Primary,
+        // Two filled places, and the first cut.
+        stored: &[5, 2, 3, 1, 0, 0, 0, 0, 0, 0],
+        turns: RESTARTS,
+        counts: (2, 2, 1),
+    },
+];

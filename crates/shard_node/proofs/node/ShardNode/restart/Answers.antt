@@ -6,8 +6,8 @@ use Rattle.shard_node.specs.States.{ReplicaState}
 use Rattle.shard_node.specs.Restart.{fit, fresh_node, reset_of}
 use Rattle.shard_node.specs.Sound.{IsReplica}
 use Rattle.shard_node.proofs.Fits.{fits_sound}
+use Rattle.shard_node.proofs.Keeps.{reset_sound}
 use Rattle.shard_node.proofs.Lives.{fresh_sound}
-use Rattle.shard_node.proofs.Tables.{reset_sound}
 use Rattle.shard_node.proofs.node.ShardNode.restart.Goals as goal
 
 pub invariant_of-result : goal.invariant_of-result
