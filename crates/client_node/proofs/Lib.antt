@@ -1,4 +1,7 @@
+pub mod Places
+pub mod Walk
 pub mod Folds
 pub mod Homes
 pub mod Sound
 pub mod Restarts
+pub mod Within

@@ -1,8 +1,9 @@
 ghost use Rattle.std.specs.Prelude.{◌≡◌, Bool, true, false, IfOk, OnErr, OnOk, IsTrue};
 ghost use Rattle.msg_wire.specs.Nodes.{is_client};
-ghost use Rattle.msg_wire.specs.Valid.{IsValidConfig, IsNodeOf, IsValidEvent, AreValidItems};
+ghost use Rattle.msg_wire.specs.Valid.{IsValidConfig, IsNodeOf, IsValidMessage, IsValidEvent, AreValidItems};
 ghost use Rattle.msg_wire.specs.Steps.{IsValidStep};
 ghost use Rattle.node_rules.specs.Nodes.{first_window};
+ghost use Rattle.node_rules.specs.Names.events;
 ghost use Rattle.node_rules.specs.Turns.{turn_of, empty_step};
 ghost use Rattle.client_node.specs.Restart.{fresh_node, restart_of};
 ghost use Rattle.client_node.specs.Sound.{IsClientNode};
@@ -12,7 +13,7 @@ use crate::own::ClientOwn;
 use crate::restart::{fresh_node, restart_of};
 use crate::rules::{hear, on_tick, submit};
 use lease_window::Known;
-use msg_wire::{Config, Event, Items, Step};
+use msg_wire::{Config, Event, Items, Message, Step};
 use node_rules::{Node, empty_step};
 use quota_table::OutOfMemory;
 use spec_base::NodeId;
@@ -80,12 +81,44 @@ impl ClientNode {
         ensures whole { OnOk result (self.new.spent ≡ false) }
         ensures spent { OnErr result (self.new.spent ≡ true) }
     {
-        let _sound = self.known();
         let mut out = empty_step(alloc);
-        self.spent = true;
-        react(&mut self.node, event, &mut out)?;
-        self.spent = false;
+        self.step_into(event, &mut out)?;
         Ok(out)
+    }
+
+    /// Takes a step, written into one that gives nothing yet. The client is spent exactly after an error, and what `out`
+    /// gives is no step then.
+    pub fn step_into(&mut self, event: &Event, out: &mut Step) -> Result<(), OutOfMemory>
+        requires whole { self.old.spent ≡ false }
+        requires valid { IsValidEvent event.now }
+        requires empty { out.old ≡ empty_step }
+        ensures turn { OnOk result (turn_of self.new.node out.new ≡ client_step self.old.node event.now) }
+        ensures valid { OnOk result (IsValidStep out.new) }
+        ensures whole { OnOk result (self.new.spent ≡ false) }
+        ensures spent { OnErr result (self.new.spent ≡ true) }
+    {
+        let _sound = self.known();
+        self.spent = true;
+        react(&mut self.node, event, out)?;
+        self.spent = false;
+        Ok(())
+    }
+
+    /// The step of a message that comes, as `step_into` makes it of the event; the message is not copied.
+    pub fn deliver_into(&mut self, message: &Message, out: &mut Step) -> Result<(), OutOfMemory>
+        requires whole { self.old.spent ≡ false }
+        requires valid { IsValidMessage message.now }
+        requires empty { out.old ≡ empty_step }
+        ensures turn { OnOk result (turn_of self.new.node out.new ≡ client_step self.old.node (events.Deliver message.now)) }
+        ensures valid { OnOk result (IsValidStep out.new) }
+        ensures whole { OnOk result (self.new.spent ≡ false) }
+        ensures spent { OnErr result (self.new.spent ≡ true) }
+    {
+        let _sound = self.known();
+        self.spent = true;
+        deliver(&mut self.node, message, out)?;
+        self.spent = false;
+        Ok(())
     }
 
     /// Whether a step of the client answered that memory was refused.
@@ -128,18 +161,29 @@ fn react(client: &mut Node<ClientOwn>, event: &Event, out: &mut Step) -> Result<
 {
     match event {
         Event::Submit { body, .. } => submit(client, body, out),
-        Event::Deliver(message) => {
-            if client.heeds(message) {
-                hear(client, message.from, &message.what, out)
-            } else {
-                Ok(())
-            }
-        }
+        Event::Deliver(message) => deliver(client, message, out),
         Event::Tick => on_tick(client, out),
         Event::Restart => {
             client.base.reset();
             Ok(())
         }
         Event::Command(_) => Ok(()),
+    }
+}
+
+/// What a message does that comes. One that is not heeded does nothing.
+fn deliver(
+    client: &mut Node<ClientOwn>,
+    message: &Message,
+    out: &mut Step,
+) -> Result<(), OutOfMemory>
+    requires valid { IsValidMessage message.now }
+    requires empty { out.old ≡ empty_step }
+    ensures { OnOk result (turn_of client.new out.new ≡ client_step client.old (events.Deliver message.now)) }
+{
+    if client.heeds(message) {
+        hear(client, message.from, &message.what, out)
+    } else {
+        Ok(())
     }
 }

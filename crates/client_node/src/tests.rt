@@ -1,53 +1,20 @@
 //! Lives of a client as tables: what comes, and beside it what the step gives.
 
-ghost use Rattle.std.specs.Prelude.{◌≡◌, false, IfOk, IsTrue, OnOk};
+ghost use Rattle.std.specs.Prelude.{◌≡◌, false, IsTrue, OnOk};
 ghost use Rattle.spec_base.specs.Spelling.{IsValidNode};
 ghost use Rattle.msg_wire.specs.Nodes.{is_client};
 ghost use Rattle.msg_wire.specs.Valid.{IsNodeOf, IsValidConfig, IsValidEvent};
 
 use crate::ClientNode;
-use msg_wire::{Config, Event, Message};
-use record_codec::Body;
-use spec_base::{NodeId, unspell};
+use life_tables::{Turn, event, told};
+use msg_wire::{Config, Event};
+use spec_base::NodeId;
 use std::alloc::Global;
 use std::process::Abort;
 use std::test::Fail;
 
-mod cluster;
-mod comes;
 mod lives;
 mod rules;
-mod told;
-
-use comes::{Comes, said};
-use told::told;
-
-/// The node that it comes from, if any, what comes, and what the step gives, a line for each item, send and mark.
-type Turn = (&'static str, Comes, &'static str);
-
-fn submission(alloc: Global, body: &[u8]) -> Result<Event, Fail>
-    ensures { IfOk result IsValidEvent }
-{
-    let body = Body::new(alloc, body)?;
-    let _len = body.len();
-    Ok(Event::Submit { by: 0, body })
-}
-
-fn event(alloc: Global, me: NodeId, from: &str, comes: &Comes) -> Result<Event, Fail>
-    requires { IsValidNode me }
-    ensures { IfOk result IsValidEvent }
-{
-    match comes {
-        Comes::Submit(body) => submission(alloc, body),
-        Comes::Tick => Ok(Event::Tick),
-        Comes::Restart => Ok(Event::Restart),
-        message => {
-            let from = unspell(from.as_bytes()).ok_or("no node")?;
-            let what = said(message)?;
-            Ok(Event::Deliver(Message { from, to: me, what }))
-        }
-    }
-}
 
 /// Takes a step, which gives what is wanted.
 fn take(

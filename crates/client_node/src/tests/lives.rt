@@ -1,8 +1,9 @@
 //! Two lives of clients of a larger cluster, step by step as an independent model of the protocol has them.
 
-use super::cluster::trio;
-use super::comes::Comes::*;
-use super::{Turn, life};
+use super::life;
+use life_tables::Comes::*;
+use life_tables::clusters::trio;
+use life_tables::{Turn, Value};
 use quota_table::Asked;
 use spec_base::NodeId;
 use std::test::Fail;
@@ -15,19 +16,19 @@ const WAITS: &[Turn] = &[
     (
         "",
         Submit(b"set k31 v29"),
-        "item Submitted { body: [115, 101, 116, 32, 107, 51, 49, 32, 118, 50, 57] }\n\
-         send to s2p Append { first: 0, number: 0, body: [115, 101, 116, 32, 107, 51, 49, 32, 118, 50, 57] }\n",
+        "item Submitted { body: \"set k31 v29\" }\n\
+         send to s2p Append { first: 0, number: 0, body: \"set k31 v29\" }\n",
     ),
     (
         "q0",
-        Remove(0, 0, 2),
+        Decided(0, 0, Value::Removal(0, 2)),
         "item Known { entry: Remove { window: 0, shard: 2 } }\n\
          send to s2p AskFate { first: 0, least: 0 }\n\
          send to s2b AskFate { first: 0, least: 0 }\n",
     ),
     (
         "q0",
-        Remove(1, 1, 2),
+        Decided(1, 0, Value::Removal(1, 2)),
         "item Known { entry: Remove { window: 1, shard: 2 } }\n\
          send to s2p AskFate { first: 0, least: 0 }\n\
          send to s2b AskFate { first: 0, least: 0 }\n",
@@ -36,78 +37,78 @@ const WAITS: &[Turn] = &[
         "s2p",
         Fate(0),
         "item Moved { shard: 1, first: 0 }\n\
-         send to s1p Append { first: 0, number: 0, body: [115, 101, 116, 32, 107, 51, 49, 32, 118, 50, 57] }\n",
+         send to s1p Append { first: 0, number: 0, body: \"set k31 v29\" }\n",
     ),
     ("s2b", Fate(0), ""),
     ("s2p", Fate(0), ""),
     ("s2b", Fate(0), ""),
     (
         "q0",
-        Remove(2, 1, 2),
+        Decided(2, 0, Value::Removal(1, 2)),
         "item Known { entry: Remove { window: 1, shard: 2 } }\n",
     ),
     (
         "q0",
-        Cut(3, 1, 0),
+        Decided(3, 0, Value::Cut(1, 0)),
         "item Known { entry: Cut { window: 1, round: 0 } }\n",
     ),
     (
         "q0",
-        Grant(4, 1, REST),
-        "item Known { entry: Table { after: 1, rounds: 4, rows: Table { rows: [Row { shard: 1, quota: 1 }, Row { shard: 0, quota: 1 }] } } }\n",
+        Decided(4, 0, Value::Grant(1, 4, REST)),
+        "item Known { entry: Table { after: 1, rounds: 4, rows: [(1, 1), (0, 1)] } }\n",
     ),
     (
         "q0",
-        Cut(5, 1, 1),
+        Decided(5, 0, Value::Cut(1, 1)),
         "item Known { entry: Cut { window: 1, round: 1 } }\n",
     ),
     (
         "q0",
-        Cut(6, 1, 2),
+        Decided(6, 0, Value::Cut(1, 2)),
         "item Known { entry: Cut { window: 1, round: 2 } }\n",
     ),
     (
         "q0",
-        Cut(7, 1, 3),
+        Decided(7, 0, Value::Cut(1, 3)),
         "item Known { entry: Cut { window: 1, round: 3 } }\n",
     ),
     (
         "q0",
-        Cut(8, 5, 0),
+        Decided(8, 0, Value::Cut(5, 0)),
         "item Known { entry: Cut { window: 5, round: 0 } }\n",
     ),
     (
         "q0",
-        Grant(9, 5, REST),
-        "item Known { entry: Table { after: 5, rounds: 4, rows: Table { rows: [Row { shard: 1, quota: 1 }, Row { shard: 0, quota: 1 }] } } }\n",
+        Decided(9, 0, Value::Grant(5, 4, REST)),
+        "item Known { entry: Table { after: 5, rounds: 4, rows: [(1, 1), (0, 1)] } }\n",
     ),
     (
         "",
         Tick,
         "send to q0 Learn { slot: 10 }\n\
-         send to s1p Append { first: 0, number: 0, body: [115, 101, 116, 32, 107, 51, 49, 32, 118, 50, 57] }\n",
+         send to s1p Append { first: 0, number: 0, body: \"set k31 v29\" }\n",
     ),
     (
         "q0",
-        Cut(10, 5, 1),
+        Decided(10, 0, Value::Cut(5, 1)),
         "item Known { entry: Cut { window: 5, round: 1 } }\n",
     ),
     (
         "",
         Tick,
         "send to q1 Learn { slot: 11 }\n\
-         send to s1p Append { first: 0, number: 0, body: [115, 101, 116, 32, 107, 51, 49, 32, 118, 50, 57] }\n",
+         send to s1p Append { first: 0, number: 0, body: \"set k31 v29\" }\n",
     ),
     (
         "q0",
-        Cut(11, 5, 2),
+        Decided(11, 0, Value::Cut(5, 2)),
         "item Known { entry: Cut { window: 5, round: 2 } }\n",
     ),
     (
         "",
         Tick,
         "send to q2 Learn { slot: 12 }\n\
-         send to s1p Append { first: 0, number: 0, body: [115, 101, 116, 32, 107, 51, 49, 32, 118, 50, 57] }\n",
+         send to s1p Append { first: 0, number: 0, body: \"set k31 v29\" }\n",
     ),
 ];
 
@@ -126,19 +127,19 @@ const ACKED: &[Turn] = &[
     (
         "",
         Submit(b""),
-        "item Submitted { body: [] }\n\
-         send to s2p Append { first: 0, number: 0, body: [] }\n",
+        "item Submitted { body: \"\" }\n\
+         send to s2p Append { first: 0, number: 0, body: \"\" }\n",
     ),
     (
         "q0",
-        Remove(0, 0, 2),
+        Decided(0, 0, Value::Removal(0, 2)),
         "item Known { entry: Remove { window: 0, shard: 2 } }\n\
          send to s2p AskFate { first: 0, least: 0 }\n\
          send to s2b AskFate { first: 0, least: 0 }\n",
     ),
     (
         "q0",
-        Remove(1, 1, 2),
+        Decided(1, 0, Value::Removal(1, 2)),
         "item Known { entry: Remove { window: 1, shard: 2 } }\n\
          send to s2p AskFate { first: 0, least: 0 }\n\
          send to s2b AskFate { first: 0, least: 0 }\n",
@@ -147,39 +148,39 @@ const ACKED: &[Turn] = &[
         "s2p",
         Fate(0),
         "item Moved { shard: 0, first: 0 }\n\
-         send to s0p Append { first: 0, number: 0, body: [] }\n",
+         send to s0p Append { first: 0, number: 0, body: \"\" }\n",
     ),
     ("s2b", Fate(0), ""),
     ("s2p", Fate(0), ""),
     ("s2b", Fate(0), ""),
     (
         "q0",
-        Remove(2, 1, 2),
+        Decided(2, 0, Value::Removal(1, 2)),
         "item Known { entry: Remove { window: 1, shard: 2 } }\n",
     ),
     (
         "q0",
-        Cut(3, 1, 0),
+        Decided(3, 0, Value::Cut(1, 0)),
         "item Known { entry: Cut { window: 1, round: 0 } }\n",
     ),
     (
         "q0",
-        Grant(4, 1, REST),
-        "item Known { entry: Table { after: 1, rounds: 4, rows: Table { rows: [Row { shard: 1, quota: 1 }, Row { shard: 0, quota: 1 }] } } }\n",
+        Decided(4, 0, Value::Grant(1, 4, REST)),
+        "item Known { entry: Table { after: 1, rounds: 4, rows: [(1, 1), (0, 1)] } }\n",
     ),
     (
         "q0",
-        Cut(5, 1, 1),
+        Decided(5, 0, Value::Cut(1, 1)),
         "item Known { entry: Cut { window: 1, round: 1 } }\n",
     ),
     (
         "q0",
-        Cut(6, 1, 2),
+        Decided(6, 0, Value::Cut(1, 2)),
         "item Known { entry: Cut { window: 1, round: 2 } }\n",
     ),
     (
         "q0",
-        Cut(7, 1, 3),
+        Decided(7, 0, Value::Cut(1, 3)),
         "item Known { entry: Cut { window: 1, round: 3 } }\n",
     ),
     (
@@ -190,24 +191,24 @@ const ACKED: &[Turn] = &[
     ),
     (
         "q0",
-        Cut(8, 5, 0),
+        Decided(8, 0, Value::Cut(5, 0)),
         "item Known { entry: Cut { window: 5, round: 0 } }\n",
     ),
     (
         "q0",
-        Grant(9, 5, REST),
-        "item Known { entry: Table { after: 5, rounds: 4, rows: Table { rows: [Row { shard: 1, quota: 1 }, Row { shard: 0, quota: 1 }] } } }\n",
+        Decided(9, 0, Value::Grant(5, 4, REST)),
+        "item Known { entry: Table { after: 5, rounds: 4, rows: [(1, 1), (0, 1)] } }\n",
     ),
     ("", Tick, "send to q0 Learn { slot: 10 }\n"),
     (
         "q0",
-        Cut(10, 5, 1),
+        Decided(10, 0, Value::Cut(5, 1)),
         "item Known { entry: Cut { window: 5, round: 1 } }\n",
     ),
     ("", Tick, "send to q1 Learn { slot: 11 }\n"),
     (
         "q0",
-        Cut(11, 5, 2),
+        Decided(11, 0, Value::Cut(5, 2)),
         "item Known { entry: Cut { window: 5, round: 2 } }\n",
     ),
     ("", Tick, "send to q2 Learn { slot: 12 }\n"),

@@ -1,9 +1,10 @@
 //! Each rule, by steps of a client of two shards.
 
-use super::cluster::pair;
-use super::comes::Comes::*;
-use super::{Turn, life, live};
+use super::{life, live};
 use crate::ClientNode;
+use life_tables::Comes::*;
+use life_tables::clusters::pair;
+use life_tables::{Turn, Value};
 use msg_wire::decode_items;
 use spec_base::NodeId;
 use std::test::Fail;
@@ -13,18 +14,18 @@ const THROUGH: &[Turn] = &[
     (
         "",
         Submit(b"5"),
-        "item Submitted { body: [53] }\n\
-         send to s0p Append { first: 0, number: 0, body: [53] }\n",
+        "item Submitted { body: \"5\" }\n\
+         send to s0p Append { first: 0, number: 0, body: \"5\" }\n",
     ),
     (
         "",
         Tick,
         "send to q0 Learn { slot: 0 }\n\
-         send to s0p Append { first: 0, number: 0, body: [53] }\n",
+         send to s0p Append { first: 0, number: 0, body: \"5\" }\n",
     ),
     (
         "q0",
-        Cut(0, 0, 0),
+        Decided(0, 0, Value::Cut(0, 0)),
         "item Known { entry: Cut { window: 0, round: 0 } }\n",
     ),
     (
@@ -35,14 +36,14 @@ const THROUGH: &[Turn] = &[
     (
         "",
         Submit(b"9"),
-        "item Submitted { body: [57] }\n\
-         send to s0p Append { first: 0, number: 1, body: [57] }\n",
+        "item Submitted { body: \"9\" }\n\
+         send to s0p Append { first: 0, number: 1, body: \"9\" }\n",
     ),
     // Its home is there, so that a fate does nothing.
     ("s0b", Fate(1), ""),
     (
         "q0",
-        Remove(1, 0, 0),
+        Decided(1, 0, Value::Removal(0, 0)),
         "item Known { entry: Remove { window: 0, shard: 0 } }\n\
          send to s0p AskFate { first: 0, least: 1 }\n\
          send to s0b AskFate { first: 0, least: 1 }\n",
@@ -62,12 +63,12 @@ const THROUGH: &[Turn] = &[
         "s0b",
         Fate(1),
         "item Moved { shard: 1, first: 1 }\n\
-         send to s1p Append { first: 1, number: 1, body: [57] }\n",
+         send to s1p Append { first: 1, number: 1, body: \"9\" }\n",
     ),
     ("s0p", Fate(1), ""),
     (
         "q0",
-        Cut(2, 2, 0),
+        Decided(2, 0, Value::Cut(2, 0)),
         "item Known { entry: Cut { window: 2, round: 0 } }\n",
     ),
     (
@@ -94,31 +95,35 @@ const ASKS_ON: &[Turn] = &[
     (
         "",
         Submit(b"5"),
-        "item Submitted { body: [53] }\n\
-         send to s0p Append { first: 0, number: 0, body: [53] }\n",
+        "item Submitted { body: \"5\" }\n\
+         send to s0p Append { first: 0, number: 0, body: \"5\" }\n",
     ),
     (
         "",
         Submit(b"7"),
-        "item Submitted { body: [55] }\n\
-         send to s0p Append { first: 0, number: 1, body: [55] }\n",
+        "item Submitted { body: \"7\" }\n\
+         send to s0p Append { first: 0, number: 1, body: \"7\" }\n",
     ),
     // An entry that isn't the next one is asked for.
-    ("q0", Remove(1, 0, 0), "send to q0 Learn { slot: 0 }\n"),
     (
         "q0",
-        Cut(0, 0, 0),
+        Decided(1, 0, Value::Removal(0, 0)),
+        "send to q0 Learn { slot: 0 }\n",
+    ),
+    (
+        "q0",
+        Decided(0, 0, Value::Cut(0, 0)),
         "item Known { entry: Cut { window: 0, round: 0 } }\n\
          send to q0 Learn { slot: 1 }\n",
     ),
     (
         "q0",
-        Remove(1, 0, 0),
+        Decided(1, 0, Value::Removal(0, 0)),
         "item Known { entry: Remove { window: 0, shard: 0 } }\n\
          send to s0p AskFate { first: 0, least: 0 }\n\
          send to s0b AskFate { first: 0, least: 0 }\n",
     ),
-    ("", Submit(b"9"), "item Submitted { body: [57] }\n"),
+    ("", Submit(b"9"), "item Submitted { body: \"9\" }\n"),
     (
         "s0b",
         Ack(0, 0),
@@ -131,8 +136,8 @@ const ASKS_ON: &[Turn] = &[
         "s0p",
         Fate(1),
         "item Moved { shard: 1, first: 1 }\n\
-         send to s1p Append { first: 1, number: 1, body: [55] }\n\
-         send to s1p Append { first: 1, number: 2, body: [57] }\n",
+         send to s1p Append { first: 1, number: 1, body: \"7\" }\n\
+         send to s1p Append { first: 1, number: 2, body: \"9\" }\n",
     ),
 ];
 
@@ -151,45 +156,45 @@ const TEN: &[Turn] = &[
     (
         "",
         Submit(b"0"),
-        "item Submitted { body: [48] }\nsend to s0p Append { first: 0, number: 0, body: [48] }\n",
+        "item Submitted { body: \"0\" }\nsend to s0p Append { first: 0, number: 0, body: \"0\" }\n",
     ),
     (
         "",
         Submit(b"1"),
-        "item Submitted { body: [49] }\nsend to s0p Append { first: 0, number: 1, body: [49] }\n",
+        "item Submitted { body: \"1\" }\nsend to s0p Append { first: 0, number: 1, body: \"1\" }\n",
     ),
     (
         "",
         Submit(b"2"),
-        "item Submitted { body: [50] }\nsend to s0p Append { first: 0, number: 2, body: [50] }\n",
+        "item Submitted { body: \"2\" }\nsend to s0p Append { first: 0, number: 2, body: \"2\" }\n",
     ),
     (
         "",
         Submit(b"3"),
-        "item Submitted { body: [51] }\nsend to s0p Append { first: 0, number: 3, body: [51] }\n",
+        "item Submitted { body: \"3\" }\nsend to s0p Append { first: 0, number: 3, body: \"3\" }\n",
     ),
     (
         "",
         Submit(b"4"),
-        "item Submitted { body: [52] }\nsend to s0p Append { first: 0, number: 4, body: [52] }\n",
+        "item Submitted { body: \"4\" }\nsend to s0p Append { first: 0, number: 4, body: \"4\" }\n",
     ),
     (
         "",
         Submit(b"5"),
-        "item Submitted { body: [53] }\nsend to s0p Append { first: 0, number: 5, body: [53] }\n",
+        "item Submitted { body: \"5\" }\nsend to s0p Append { first: 0, number: 5, body: \"5\" }\n",
     ),
     (
         "",
         Submit(b"6"),
-        "item Submitted { body: [54] }\nsend to s0p Append { first: 0, number: 6, body: [54] }\n",
+        "item Submitted { body: \"6\" }\nsend to s0p Append { first: 0, number: 6, body: \"6\" }\n",
     ),
     (
         "",
         Submit(b"7"),
-        "item Submitted { body: [55] }\nsend to s0p Append { first: 0, number: 7, body: [55] }\n",
+        "item Submitted { body: \"7\" }\nsend to s0p Append { first: 0, number: 7, body: \"7\" }\n",
     ),
-    ("", Submit(b"8"), "item Submitted { body: [56] }\n"),
-    ("", Submit(b"9"), "item Submitted { body: [57] }\n"),
+    ("", Submit(b"8"), "item Submitted { body: \"8\" }\n"),
+    ("", Submit(b"9"), "item Submitted { body: \"9\" }\n"),
     // Another number, a client, and a shard that the cluster doesn't have.
     ("s0p", Ack(1, 2), ""),
     ("c1", Ack(0, 0), ""),
@@ -198,7 +203,7 @@ const TEN: &[Turn] = &[
         "s0p",
         Ack(0, 0),
         "item Acked\n\
-         send to s0p Append { first: 0, number: 8, body: [56] }\n\
+         send to s0p Append { first: 0, number: 8, body: \"8\" }\n\
          mark Ack { number: 0, position: 0 }\n",
     ),
     ("s0p", Ack(0, 0), ""),
@@ -206,14 +211,14 @@ const TEN: &[Turn] = &[
         "",
         Tick,
         "send to q0 Learn { slot: 0 }\n\
-         send to s0p Append { first: 0, number: 1, body: [49] }\n\
-         send to s0p Append { first: 0, number: 2, body: [50] }\n\
-         send to s0p Append { first: 0, number: 3, body: [51] }\n\
-         send to s0p Append { first: 0, number: 4, body: [52] }\n\
-         send to s0p Append { first: 0, number: 5, body: [53] }\n\
-         send to s0p Append { first: 0, number: 6, body: [54] }\n\
-         send to s0p Append { first: 0, number: 7, body: [55] }\n\
-         send to s0p Append { first: 0, number: 8, body: [56] }\n",
+         send to s0p Append { first: 0, number: 1, body: \"1\" }\n\
+         send to s0p Append { first: 0, number: 2, body: \"2\" }\n\
+         send to s0p Append { first: 0, number: 3, body: \"3\" }\n\
+         send to s0p Append { first: 0, number: 4, body: \"4\" }\n\
+         send to s0p Append { first: 0, number: 5, body: \"5\" }\n\
+         send to s0p Append { first: 0, number: 6, body: \"6\" }\n\
+         send to s0p Append { first: 0, number: 7, body: \"7\" }\n\
+         send to s0p Append { first: 0, number: 8, body: \"8\" }\n",
     ),
 ];
 
@@ -231,8 +236,8 @@ fn acknowledgements_bring_the_next_number(rt: HostRuntime) -> Result<(), Fail> {
 const MOVED: &[Turn] = &[(
     "",
     Submit(b"7"),
-    "item Submitted { body: [55] }\n\
-     send to s1p Append { first: 1, number: 1, body: [55] }\n",
+    "item Submitted { body: \"7\" }\n\
+     send to s1p Append { first: 1, number: 1, body: \"7\" }\n",
 )];
 
 #[test]
