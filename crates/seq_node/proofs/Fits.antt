@@ -14,9 +14,9 @@ use Rattle.node_rules.specs.Nodes.{Node, knowing, has_slot}
 use Rattle.seq_node.specs.States.{SlotAttempt, SequencerState, acceptor_at}
 use Rattle.seq_node.specs.Restart.{fit, fit_acceptor, fresh_node, restart_of}
 use Rattle.seq_node.specs.Sound.{IsAcceptor, MayBeAttempt, IsOrderly, IsSequencer}
-use Rattle.seq_node.proofs.Lists.{by_test, all_push}
+use Rattle.node_rules.proofs.Lists.{on_test, all_push}
 use Rattle.seq_node.proofs.Keeps.{acceptors_with, acceptor_valid}
-use Rattle.seq_node.proofs.Tables.{valid_after_prepare, valid_after_accept}
+use Rattle.seq_node.proofs.Validity.{valid_after_prepare, valid_after_accept}
 use Rattle.seq_node.proofs.Lives.{fresh_sound}
 use Rattle.seq_node.proofs.UnderWays.{fold_me}
 
@@ -30,7 +30,7 @@ no_attempt replica seqs next slots o none = subst (MayBeAttempt replica seqs nex
 
 rest_known : (n : Node SequencerState) (entry : Entry) → IsValidEntry entry → IsAtRest n → IsAtRest (fit n (items.Known entry))
 rest_known n entry valid is =
-    by_test IsAtRest (has_slot n.base) (record n { base = knowing entry n.base }) n
+    on_test IsAtRest (has_slot n.base) (record n { base = knowing entry n.base }) n
     (λ slot. record {
       orderly = record {
         base = record {
@@ -48,7 +48,8 @@ rest_known n entry valid is =
     })
     (λ _. is)
 
-rest_acceptor : (n : Node SequencerState) (slot : ℕ) (change : AcceptorState Entry → AcceptorState Entry) → slot < 1000000 → IsAcceptor (change (acceptor_at n.own slot)) → IsAtRest n
+rest_acceptor : (n : Node SequencerState) (slot : ℕ) (change : AcceptorState Entry → AcceptorState Entry) → slot < 1000000
+    → IsAcceptor (change (acceptor_at n.own slot)) → IsAtRest n
     → IsAtRest (fit_acceptor slot change n)
 rest_acceptor n slot change low valid is = record {
   orderly = record {
@@ -73,12 +74,7 @@ rest n (items.Promised slot ballot) valid is =
 rest n (items.Accepted slot ballot entry) valid is =
     rest_acceptor n slot (after_accept ballot entry) valid.0
     (valid_after_accept (greater_promise (acceptor_at n.own slot).promised ballot) ballot entry (acceptor_at n.own slot) valid.1 valid.2 (acceptor_valid n.own slot is.orderly.own)) is
-rest n (items.Taken rec) valid is = is
-rest n (items.Noops count) valid is = is
-rest n (items.Submitted body) valid is = is
-rest n items.Acked valid is = is
-rest n (items.Moved shard first) valid is = is
-rest n (items.Confirmed rec output) valid is = is
+rest n _ valid is = is
 
 rests : (n : Node SequencerState) (stored : List Item) → AreValidItems stored → IsAtRest n → IsAtRest (fold fit n stored)
 rests n [] valid is = is
@@ -87,7 +83,8 @@ rests n (item ∷ stored) valid is = rests (fit n item) stored valid.1 (rest n i
 pub fresh_sequencer_is : (cfg : Config) (me : NodeId) → IsValidConfig cfg → IsNodeOf cfg me → IsTrue (is_sequencer me) → IsSequencer (fresh_node cfg me)
 fresh_sequencer_is cfg me valid here kind = record { orderly = fresh_sound cfg me valid here; kind = kind }
 
-pub restarted_is : (cfg : Config) (me : NodeId) (stored : List Item) → IsValidConfig cfg → IsNodeOf cfg me → IsTrue (is_sequencer me) → AreValidItems stored → IsSequencer (restart_of cfg me stored)
+pub restarted_is : (cfg : Config) (me : NodeId) (stored : List Item) → IsValidConfig cfg → IsNodeOf cfg me → IsTrue (is_sequencer me) → AreValidItems stored
+    → IsSequencer (restart_of cfg me stored)
 restarted_is cfg me stored valid here kind good = record {
   orderly = (rests (fresh_node cfg me) stored good (record { orderly = fresh_sound cfg me valid here; none = refl })).orderly;
   kind = subst (λ (name : NodeId). IsTrue (is_sequencer name)) (sym (fold_me (fresh_node cfg me) stored)) kind;

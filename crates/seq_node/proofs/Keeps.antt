@@ -1,9 +1,8 @@
 -- What holds of a sequencer's turn that began at a node, and what changes of its parts keep.
-use Rattle.std.proofs.Common.{◌≡◌, ℕ, ◌+◌, ◌-◌, ◌<◌, ◌≤◌, ◌^◌, ◌==◌, Bool, true, false, List, [], ◌∷◌, length, map, set, replicate, drop, Option, Some, None, refl, sym, ap, subst, ◌∙◌, arith}
-use Rattle.std.specs.Prelude.{if◌then◌else◌, max, min}
-use Rattle.std.specs.List.{AllByRecursion, fold}
-use Rattle.std.specs.Option.{option_map_or}
-use Rattle.std.proofs.lemmas.Bool.{ltb-true, eq-eqb}
+use Rattle.std.proofs.Common.{◌≡◌, ℕ, ◌+◌, ◌-◌, ◌<◌, ◌≤◌, ◌==◌, Bool, true, List, [], ◌∷◌, length, set, replicate, drop, Option, Some, None, refl, sym, ap, subst, ◌∙◌, arith}
+use Rattle.std.specs.List.{AllByRecursion}
+use Rattle.std.specs.Prelude.{if◌then◌else◌}
+use Rattle.std.proofs.lemmas.Bool.{eq-eqb}
 use Rattle.std.proofs.lemmas.List.{length-append, length-set, length-replicate}
 use Rattle.std.proofs.lemmas.List.Sums.{fold-append}
 use Rattle.spec_base.specs.Spelling.{IsValidNode}
@@ -15,92 +14,42 @@ use Rattle.msg_wire.specs.Valid.{IsValidMessage, IsValidItem, IsValidWhat}
 use Rattle.node_rules.specs.Names.{NodeId, Entry, What, Item}
 use Rattle.node_rules.specs.Names.items
 use Rattle.node_rules.specs.Nodes.{Base, Node, has_slot, knowing, reset_base, with_own}
-use Rattle.node_rules.specs.Turns.{Turn, message_to, send, send_all, put_base, put_own, store, own_of, agreed}
-use Rattle.node_rules.specs.Rules.{learn}
+use Rattle.node_rules.specs.Turns.{Turn, message_to, send, put_own, store, own_of, agreed}
+use Rattle.node_rules.specs.Rules.{learn, with_seen, with_tick}
+use Rattle.node_rules.proofs.Limits.{node_valid, base_knowing, base_seeing, base_ticking}
 use Rattle.seq_node.specs.States.{SlotAttempt, SequencerState, only_acceptors, acceptor_at, reaching, with_attempt, with_idle}
 use Rattle.seq_node.specs.Learning.{wish_granted, attempt_over, on_learned}
 use Rattle.seq_node.specs.Restart.{fit, reset_of}
-use Rattle.seq_node.specs.Sound.{IsAcceptor, AreAcceptors, AreWishes, IsOwn, IsAttempt, MayBeAttempt, IsOrderly}
+use Rattle.seq_node.specs.Sound.{IsAcceptor, AreAcceptors, AreWishes, IsOwn, IsAttempt, MayBeAttempt}
 use Rattle.seq_node.specs.UnderWay.{IsKept}
-use Rattle.seq_node.proofs.Lists.{by_test, all_append, all_push, all_replicate, all_set, all_or}
-use Rattle.seq_node.proofs.Limits.{valid_node, slots_known}
+use Rattle.node_rules.proofs.Lists.{on_test, all_append, all_push, all_replicate}
+use Rattle.seq_node.proofs.Lists.{all_set, all_or}
+use Rattle.seq_node.proofs.Limits.{slots_known}
 
--- ---- ways to put rules together
+-- ---- what is sent and counted
 
-pub kept_if : (n : Node SequencerState) (b : Bool) (t s : Turn SequencerState) → (b ≡ true → IsKept n t) → (b ≡ false → IsKept n s) → IsKept n (if b then t else s)
-kept_if n true t s first second = first refl
-kept_if n false t s first second = second refl
-
-pub kept_option : {X : Type 0} → (n : Node SequencerState) (f : X → Turn SequencerState) (o : Option X) (t : Turn SequencerState) → ((x : X) → o ≡ Some x → IsKept n (f x)) → IsKept n t → IsKept n (option_map_or f o t)
-kept_option n f None t one is = is
-kept_option n f (Some x) t one is = one x refl
-
-pub kept_fold : {X : Type 0} → (n : Node SequencerState) (f : Turn SequencerState → X → Turn SequencerState) (P : X → Type 0) (xs : List X) (t : Turn SequencerState)
-    → ((s : Turn SequencerState) (x : X) → P x → IsKept n s → IsKept n (f s x)) → AllByRecursion P xs → IsKept n t → IsKept n (fold f t xs)
-kept_fold n f P [] t one all is = is
-kept_fold n f P (x ∷ xs) t one all is = kept_fold n f P xs (f t x) one all.1 (one t x all.0 is)
-
--- ---- what is sent
-
-all_sent : (from : NodeId) (what : What) (tos : List NodeId) → IsValidNode from → IsValidWhat what → AllByRecursion IsValidNode tos
-    → AllByRecursion IsValidMessage (map (λ (to : NodeId). record { from = from; to = to; what = what }) tos)
-all_sent from what [] here said all = tt
-all_sent from what (to ∷ tos) here said all = (record { from = here; to = all.0; what = said }, all_sent from what tos here said all.1)
-
-named : (n : Node SequencerState) → IsOrderly n → IsValidNode n.base.me
-named n is = valid_node n.base.cfg n.base.me is.base.cfg is.base.me
-
-pub kept_send : (n : Node SequencerState) (to : NodeId) (what : What) (t : Turn SequencerState) → IsValidNode to → IsValidWhat what → IsKept n t → IsKept n (send to what t)
-kept_send n to what t there said is = record {
+pub kept_send : (n : Node SequencerState) (to : NodeId) (what : What) (t : Turn SequencerState) → IsValidNode to × IsValidWhat what → IsKept n t
+    → IsKept n (send to what t)
+kept_send n to what t goes is = record {
   sound = is.sound;
   stored = is.stored;
   stable = is.stable;
-  sends = all_push IsValidMessage t.sends (message_to t what to) is.sends (record { from = named t.state is.sound; to = there; what = said });
+  sends =
+      all_push IsValidMessage t.sends (message_to t what to) is.sends
+      (record { from = node_valid t.state.base.cfg t.state.base.me is.sound.base.cfg is.sound.base.me; to = goes.0; what = goes.1 });
 }
 
-pub kept_send_all : (n : Node SequencerState) (tos : List NodeId) (what : What) (t : Turn SequencerState) → AllByRecursion IsValidNode tos → IsValidWhat what → IsKept n t → IsKept n (send_all tos what t)
-kept_send_all n tos what t there said is = record {
-  sound = is.sound;
-  stored = is.stored;
-  stable = is.stable;
-  sends = all_append IsValidMessage t.sends (map (message_to t what) tos) is.sends (all_sent t.state.base.me what tos (named t.state is.sound) said there);
-}
-
--- ---- what is counted
-
-pub kept_seen : (n : Node SequencerState) (count : ℕ) (t : Turn SequencerState) → count ≤ 1000000 → IsKept n t → IsKept n (put_base (record (t.state.base) { seen = max t.state.base.seen count }) t)
+pub kept_seen : (n : Node SequencerState) (count : ℕ) (t : Turn SequencerState) → count ≤ 1000000 → IsKept n t → IsKept n (with_seen count t)
 kept_seen n count t most is = record {
-  sound = record {
-    base = record {
-      cfg = is.sound.base.cfg;
-      me = is.sound.base.me;
-      entries = is.sound.base.entries;
-      few = is.sound.base.few;
-      seen = omega (arith, is.sound.base.seen);
-      ticks = is.sound.base.ticks;
-    };
-    own = is.sound.own;
-    attempt = is.sound.attempt;
-  };
+  sound = record { base = base_seeing count t.state.base most is.sound.base; own = is.sound.own; attempt = is.sound.attempt };
   stored = is.stored;
   stable = is.stable;
   sends = is.sends;
 }
 
-pub kept_tick : (n : Node SequencerState) (t : Turn SequencerState) → IsKept n t → IsKept n (put_base (record (t.state.base) { ticks = min (t.state.base.ticks + 1) (2 ^ 48) }) t)
+pub kept_tick : (n : Node SequencerState) (t : Turn SequencerState) → IsKept n t → IsKept n (with_tick t)
 kept_tick n t is = record {
-  sound = record {
-    base = record {
-      cfg = is.sound.base.cfg;
-      me = is.sound.base.me;
-      entries = is.sound.base.entries;
-      few = is.sound.base.few;
-      seen = is.sound.base.seen;
-      ticks = omega arith;
-    };
-    own = is.sound.own;
-    attempt = is.sound.attempt;
-  };
+  sound = record { base = base_ticking t.state.base is.sound.base; own = is.sound.own; attempt = is.sound.attempt };
   stored = is.stored;
   stable = is.stable;
   sends = is.sends;
@@ -116,11 +65,13 @@ HasAttempt b s o = MayBeAttempt (number_of b.me) b.cfg.seqs (length b.known) (le
 abbrev pub left_with : Base → List (AcceptorState Entry) → Node SequencerState
 left_with b acceptors = record { base = reset_base b; own = only_acceptors acceptors }
 
-pub attempt_at : (b : Base) (s : SequencerState) (a : SlotAttempt) → HasAttempt b s s.attempt → s.attempt ≡ Some a → IsAttempt (number_of b.me) b.cfg.seqs (length b.known) (length s.acceptors) a
+pub attempt_at : (b : Base) (s : SequencerState) (a : SlotAttempt) → HasAttempt b s s.attempt → s.attempt ≡ Some a
+    → IsAttempt (number_of b.me) b.cfg.seqs (length b.known) (length s.acceptors) a
 attempt_at b s a is e = subst (λ (o : Option SlotAttempt). HasAttempt b s o) e is
 
 -- another part of its own, with the same acceptors
-pub kept_own : (n : Node SequencerState) (s : SequencerState) (t : Turn SequencerState) → IsOwn s → HasAttempt t.state.base s s.attempt → s.acceptors ≡ t.state.own.acceptors → IsKept n t → IsKept n (put_own s t)
+pub kept_own : (n : Node SequencerState) (s : SequencerState) (t : Turn SequencerState) → IsOwn s → HasAttempt t.state.base s s.attempt
+    → s.acceptors ≡ t.state.own.acceptors → IsKept n t → IsKept n (put_own s t)
 kept_own n s t own attempt same is = record {
   sound = record { base = is.sound.base; own = own; attempt = attempt };
   stored = is.stored ∙ ap (left_with t.state.base) (sym same);
@@ -129,7 +80,8 @@ kept_own n s t own attempt same is = record {
 }
 
 -- an item is stored that brings the acceptors that this part has
-pub kept_item : (n : Node SequencerState) (item : Item) (s : SequencerState) (t : Turn SequencerState) → IsOwn s → HasAttempt t.state.base s s.attempt → IsValidItem item
+pub kept_item : (n : Node SequencerState) (item : Item) (s : SequencerState) (t : Turn SequencerState) → IsOwn s → HasAttempt t.state.base s s.attempt
+    → IsValidItem item
     → fit (reset_of t.state) item ≡ reset_of (with_own s t.state) → IsKept n t → IsKept n (store item (put_own s t))
 kept_item n item s t own attempt valid brings is = record {
   sound = record { base = is.sound.base; own = own; attempt = attempt };
@@ -146,20 +98,26 @@ length-reaching acceptors slot acceptor =
     length-set (reaching (slot + 1) acceptors) slot acceptor ∙ length-append acceptors (replicate (slot + 1 - length acceptors) fresh_acceptor)
     ∙ ap (λ (count : ℕ). length acceptors + count) (length-replicate (slot + 1 - length acceptors) fresh_acceptor)
 
-pub acceptors_with : (acceptors : List (AcceptorState Entry)) (slot : ℕ) (acceptor : AcceptorState Entry) → slot < 1000000 → IsAcceptor acceptor → AreAcceptors acceptors
+-- what holds of fresh acceptors, of all that are there and of a new one
+pub all_reaching : (P : AcceptorState Entry → Type 0) (acceptors : List (AcceptorState Entry)) (slot : ℕ) (acceptor : AcceptorState Entry) → P fresh_acceptor
+    → AllByRecursion P acceptors → P acceptor
+    → AllByRecursion P (set (reaching (slot + 1) acceptors) slot acceptor)
+all_reaching P acceptors slot acceptor fresh all here =
+    all_set P (reaching (slot + 1) acceptors) slot acceptor
+    (all_append P acceptors (replicate (slot + 1 - length acceptors) fresh_acceptor) all (all_replicate P (slot + 1 - length acceptors) fresh_acceptor fresh)) here
+
+pub acceptors_with : (acceptors : List (AcceptorState Entry)) (slot : ℕ) (acceptor : AcceptorState Entry) → slot < 1000000 → IsAcceptor acceptor
+    → AreAcceptors acceptors
     → AreAcceptors (set (reaching (slot + 1) acceptors) slot acceptor)
-acceptors_with acceptors slot acceptor low valid are = record {
-  each =
-      all_set IsAcceptor (reaching (slot + 1) acceptors) slot acceptor
-      (all_append IsAcceptor acceptors (replicate (slot + 1 - length acceptors) fresh_acceptor) are.each (all_replicate IsAcceptor (slot + 1 - length acceptors) fresh_acceptor tt)) valid;
-  few = omega (arith, length-reaching acceptors slot acceptor, low, are.few);
-}
+acceptors_with acceptors slot acceptor low valid are =
+    record { each = all_reaching IsAcceptor acceptors slot acceptor tt are.each valid; few = omega (arith, length-reaching acceptors slot acceptor, low, are.few) }
 
 pub acceptor_valid : (s : SequencerState) (slot : ℕ) → IsOwn s → IsAcceptor (acceptor_at s slot)
 acceptor_valid s slot is = all_or IsAcceptor s.acceptors slot fresh_acceptor is.acceptors.each tt
 
 -- an attempt is one among more acceptors
-pub attempt_longer : (replica seqs next slots more : ℕ) (o : Option SlotAttempt) → slots ≤ more → MayBeAttempt replica seqs next slots o → MayBeAttempt replica seqs next more o
+pub attempt_longer : (replica seqs next slots more : ℕ) (o : Option SlotAttempt) → slots ≤ more → MayBeAttempt replica seqs next slots o
+    → MayBeAttempt replica seqs next more o
 attempt_longer replica seqs next slots more None longer is = tt
 attempt_longer replica seqs next slots more (Some a) longer is = record {
   replica_is = is.replica_is;
@@ -177,7 +135,7 @@ attempt_longer replica seqs next slots more (Some a) longer is = record {
 
 own_granted : (wished : Option Entry) (entry : Entry) (s : SequencerState) → IsOwn s → IsOwn (wish_granted wished entry s)
 own_granted wished entry s is =
-    by_test IsOwn (is_entry wished entry) (record s { wishes = drop 1 s.wishes }) s
+    on_test IsOwn (is_entry wished entry) (record s { wishes = drop 1 s.wishes }) s
     (λ _. record { acceptors = is.acceptors; primaries = is.primaries; backups = is.backups; wishes = without_first s.wishes is.wishes; idle = is.idle }) (λ _. is)
   where
     without_first : (wishes : List _) → AreWishes wishes → AreWishes (drop 1 wishes)
@@ -187,26 +145,28 @@ own_granted wished entry s is =
 own_over : (o : Option SlotAttempt) (slot : ℕ) (entry : Entry) (s : SequencerState) → IsOwn s → IsOwn (attempt_over o slot entry s)
 own_over None slot entry s is = is
 own_over (Some a) slot entry s is =
-    by_test IsOwn (a.slot == slot) (wish_granted a.wished entry (with_attempt None s)) s
+    on_test IsOwn (a.slot == slot) (wish_granted a.wished entry (with_attempt None s)) s
     (λ _. own_granted a.wished entry (with_attempt None s) (record { acceptors = is.acceptors; primaries = is.primaries; backups = is.backups; wishes = is.wishes; idle = is.idle })) (λ _. is)
 
 acceptors_over : (o : Option SlotAttempt) (slot : ℕ) (entry : Entry) (s : SequencerState) → (attempt_over o slot entry s).acceptors ≡ s.acceptors
 acceptors_over None slot entry s = refl
 acceptors_over (Some a) slot entry s =
-    by_test (λ (r : SequencerState). r.acceptors ≡ s.acceptors) (a.slot == slot) (wish_granted a.wished entry (with_attempt None s)) s
-    (λ _. by_test (λ (r : SequencerState). r.acceptors ≡ s.acceptors) (is_entry a.wished entry) (record s { wishes = drop 1 s.wishes; attempt = None }) (with_attempt None s) (λ _. refl) (λ _. refl))
+    on_test (λ (r : SequencerState). r.acceptors ≡ s.acceptors) (a.slot == slot) (wish_granted a.wished entry (with_attempt None s)) s
+    (λ _. on_test (λ (r : SequencerState). r.acceptors ≡ s.acceptors) (is_entry a.wished entry) (record s { wishes = drop 1 s.wishes; attempt = None }) (with_attempt None s) (λ _. refl) (λ _. refl))
     (λ _. refl)
 
 -- an attempt is for the slot that is next, so that it ends
-attempt_gone : (o : Option SlotAttempt) (slot : ℕ) (entry : Entry) (s : SequencerState) → s.attempt ≡ o → ((a : SlotAttempt) → o ≡ Some a → (a.slot == slot) ≡ true) → (attempt_over o slot entry s).attempt ≡ None
+attempt_gone : (o : Option SlotAttempt) (slot : ℕ) (entry : Entry) (s : SequencerState) → s.attempt ≡ o
+    → ((a : SlotAttempt) → o ≡ Some a → (a.slot == slot) ≡ true) → (attempt_over o slot entry s).attempt ≡ None
 attempt_gone None slot entry s here ends = here
 attempt_gone (Some a) slot entry s here ends =
-    by_test (λ (r : SequencerState). r.attempt ≡ None) (a.slot == slot) (wish_granted a.wished entry (with_attempt None s)) s
-    (λ _. by_test (λ (r : SequencerState). r.attempt ≡ None) (is_entry a.wished entry) (record s { wishes = drop 1 s.wishes; attempt = None }) (with_attempt None s) (λ _. refl) (λ _. refl))
+    on_test (λ (r : SequencerState). r.attempt ≡ None) (a.slot == slot) (wish_granted a.wished entry (with_attempt None s)) s
+    (λ _. on_test (λ (r : SequencerState). r.attempt ≡ None) (is_entry a.wished entry) (record s { wishes = drop 1 s.wishes; attempt = None }) (with_attempt None s) (λ _. refl) (λ _. refl))
     (λ other. let end = ends a refl in absurd (cc))
 
-pub kept_learn : (n : Node SequencerState) (entry : Entry) (t : Turn SequencerState) → has_slot t.state.base ≡ true → IsValidEntry entry → IsKept n t → IsKept n (learn on_learned entry t)
-kept_learn n entry t slot valid is =
+pub kept_learn : (n : Node SequencerState) (entry : Entry) (t : Turn SequencerState) → IsValidEntry entry → has_slot t.state.base ≡ true → IsKept n t
+    → IsKept n (learn on_learned entry t)
+kept_learn n entry t valid slot is =
     let gone =
     attempt_gone (own_of t).attempt (agreed t).slots entry (with_idle 0 (own_of t)) refl
     (λ a e. let at = attempt_at t.state.base (own_of t) a is.sound.attempt e in eq-eqb a.slot (agreed t).slots (at.slot ∙ sym (slots_known t.state.base)))
@@ -214,14 +174,7 @@ kept_learn n entry t slot valid is =
     let same = acceptors_over (own_of t).attempt (agreed t).slots entry (with_idle 0 (own_of t)) in
     record {
       sound = record {
-        base = record {
-          cfg = is.sound.base.cfg;
-          me = is.sound.base.me;
-          entries = all_push IsValidEntry t.state.base.known entry is.sound.base.entries valid;
-          few = omega (arith, ltb-true _ _ slot, length-append t.state.base.known (entry ∷ []));
-          seen = is.sound.base.seen;
-          ticks = is.sound.base.ticks;
-        };
+        base = base_knowing entry t.state.base valid slot is.sound.base;
         own =
             own_over (own_of t).attempt (agreed t).slots entry (with_idle 0 (own_of t))
             (record { acceptors = is.sound.own.acceptors; primaries = is.sound.own.primaries; backups = is.sound.own.backups; wishes = is.sound.own.wishes; idle = omega arith });

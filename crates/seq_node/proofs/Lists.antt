@@ -1,25 +1,10 @@
 -- Lists of which each element has a property, by recursion.
-use Rattle.std.proofs.Common.{◌≡◌, ℕ, zero, suc, ◌+◌, ◌-◌, ◌<◌, Bool, true, false, List, [], ◌∷◌, ◌++◌, length, replicate, filter, get_or, set, Some, refl, ap, subst, ◌∙◌, arith, append-nil}
+use Rattle.std.proofs.Common.{◌≡◌, ℕ, zero, suc, ◌+◌, ◌-◌, ◌<◌, Bool, true, false, List, [], ◌∷◌, ◌++◌, length, replicate, filter, get_or, set, ap, ◌∙◌, arith, append-nil}
 use Rattle.std.specs.Prelude.{if◌then◌else◌}
-use Rattle.std.specs.List.{AllByRecursion, slice_get}
+use Rattle.std.specs.List.{AllByRecursion}
 use Rattle.std.proofs.lemmas.List.{set-get_or}
 
 module _ {X : Type 0} where
-  pub by_test : (P : X → Type 0) (b : Bool) (x y : X) → (b ≡ true → P x) → (b ≡ false → P y) → P (if b then x else y)
-  by_test P true x y first second = first refl
-  by_test P false x y first second = second refl
-
-  pub all_append : (P : X → Type 0) (xs ys : List X) → AllByRecursion P xs → AllByRecursion P ys → AllByRecursion P (xs ++ ys)
-  all_append P [] ys first second = second
-  all_append P (x ∷ xs) ys first second = (first.0, all_append P xs ys first.1 second)
-
-  pub all_push : (P : X → Type 0) (xs : List X) (x : X) → AllByRecursion P xs → P x → AllByRecursion P (xs ++ x ∷ [])
-  all_push P xs x all here = all_append P xs (x ∷ []) all (here, tt)
-
-  pub all_replicate : (P : X → Type 0) (count : ℕ) (x : X) → P x → AllByRecursion P (replicate count x)
-  all_replicate P zero x here = tt
-  all_replicate P (suc count) x here = (here, all_replicate P count x here)
-
   pub all_set : (P : X → Type 0) (xs : List X) (i : ℕ) (x : X) → AllByRecursion P xs → P x → AllByRecursion P (set xs i x)
   all_set P [] i x all here = tt
   all_set P (y ∷ xs) zero x all here = (here, all.1)
@@ -29,11 +14,6 @@ module _ {X : Type 0} where
   all_or P [] i d all here = here
   all_or P (x ∷ xs) zero d all here = all.0
   all_or P (x ∷ xs) (suc i) d all here = all_or P xs i d all.1 here
-
-  pub all_at : (P : X → Type 0) (xs : List X) (i : ℕ) (x : X) → AllByRecursion P xs → slice_get xs i ≡ Some x → P x
-  all_at P [] i x all e = absurd (cc)
-  all_at P (y ∷ ys) zero x all e = let same : y ≡ x = cc in subst P same all.0
-  all_at P (y ∷ ys) (suc i) x all e = all_at P ys i x all.1 e
 
   pub all_filter : (P : X → Type 0) (test : X → Bool) (xs : List X) → AllByRecursion P xs → AllByRecursion P (filter test xs)
   all_filter P test [] all = tt

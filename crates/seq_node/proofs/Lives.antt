@@ -6,6 +6,7 @@ use Rattle.msg_wire.specs.Valid.{IsValidConfig, IsNodeOf, IsValidEvent}
 use Rattle.node_rules.specs.Names.{NodeId, Config, Event}
 use Rattle.node_rules.specs.Nodes.{Node}
 use Rattle.node_rules.specs.Turns.{Turn}
+use Rattle.node_rules.proofs.Limits.{base_fresh}
 use Rattle.node_rules.specs.Lives.{Life, lived_on}
 use Rattle.seq_node.specs.States.{SequencerState}
 use Rattle.seq_node.specs.Steps.{sequencer_step}
@@ -13,7 +14,7 @@ use Rattle.seq_node.specs.Restart.{fit, fresh_node, reset_of, restart_of}
 use Rattle.seq_node.specs.Sound.{IsOrderly}
 use Rattle.seq_node.specs.Laws.{sequencer_life, RestartIsTheItems, StepsAreValid}
 use Rattle.seq_node.specs.UnderWay.{IsKept}
-use Rattle.seq_node.proofs.Tables.{only_own, kept_step}
+use Rattle.seq_node.proofs.Validity.{only_own, kept_step}
 
 -- what holds of a life so far
 record IsLife (cfg : Config) (me : NodeId) (life : Life SequencerState) : Type 0 where
@@ -21,13 +22,10 @@ record IsLife (cfg : Config) (me : NodeId) (life : Life SequencerState) : Type 0
   stored : restart_of cfg me life.stored ≡ reset_of life.node
 
 pub fresh_sound : (cfg : Config) (me : NodeId) → IsValidConfig cfg → IsNodeOf cfg me → IsOrderly (fresh_node cfg me)
-fresh_sound cfg me valid here = record {
-  base = record { cfg = valid; me = here; entries = tt; few = omega arith; seen = omega arith; ticks = omega arith };
-  own = only_own [] (record { each = tt; few = omega arith });
-  attempt = tt;
-}
+fresh_sound cfg me valid here = record { base = base_fresh cfg me valid here; own = only_own [] (record { each = tt; few = omega arith }); attempt = tt }
 
-lived : (cfg : Config) (me : NodeId) (life : Life SequencerState) (t : Turn SequencerState) → IsLife cfg me life → IsKept life.node t → IsLife cfg me (lived_on life t)
+lived : (cfg : Config) (me : NodeId) (life : Life SequencerState) (t : Turn SequencerState) → IsLife cfg me life → IsKept life.node t
+    → IsLife cfg me (lived_on life t)
 lived cfg me life t is kept = record {
   sound = kept.sound;
   stored =
@@ -36,7 +34,8 @@ lived cfg me life t is kept = record {
       ∙ kept.stored;
 }
 
-lives : (cfg : Config) (me : NodeId) (events : List Event) → IsValidConfig cfg → IsNodeOf cfg me → AllByRecursion IsValidEvent events → IsLife cfg me (sequencer_life cfg me events)
+lives : (cfg : Config) (me : NodeId) (events : List Event) → IsValidConfig cfg → IsNodeOf cfg me → AllByRecursion IsValidEvent events
+    → IsLife cfg me (sequencer_life cfg me events)
 lives cfg me [] valid here each = record { sound = fresh_sound cfg me valid here; stored = refl }
 lives cfg me (event ∷ events) valid here each =
     let before = lives cfg me events valid here each.1 in

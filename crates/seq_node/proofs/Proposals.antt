@@ -14,21 +14,24 @@ use Rattle.node_rules.specs.Sound.{IsBase}
 use Rattle.seq_node.specs.States.{SequencerState, acceptor_at}
 use Rattle.seq_node.specs.Values.{entry_of, wished_value, renewal_is_due, renewal, cut_is_due, cut, is_touched, filler, value_for}
 use Rattle.seq_node.specs.Sound.{MayBeValid, IsOrderly}
-use Rattle.seq_node.proofs.Limits.{agreed_sound, number_limit}
+use Rattle.node_rules.proofs.Limits.{agreed_sound}
+use Rattle.seq_node.proofs.Limits.{number_limit}
 
 may_if : (b : Bool) (entry : Entry) → IsValidEntry entry → MayBeValid (if b then Some entry else None)
 may_if true entry valid = valid
 may_if false entry valid = tt
 
-may_or : (first second : Option Entry) → MayBeValid first → MayBeValid second → MayBeValid (option_or first second)
-may_or None second one other = other
-may_or (Some entry) second one other = one
+-- what holds of both choices holds of the first that is there
+pub on_first : (P : Option Entry → Type 0) (first second : Option Entry) → P first → P second → P (option_or first second)
+on_first P None second one other = other
+on_first P (Some entry) second one other = one
 
 valid_entry_of : (window : ℕ) (command : Command) → window ≤ 1000000 → IsValidCommand command → IsValidEntry (entry_of window command)
 valid_entry_of window (commands.Table rounds rows) number valid = (number, valid.0, valid.1)
 valid_entry_of window (commands.Remove shard) number valid = (number, valid)
 
-valid_first : (window : ℕ) (wishes : List Command) → window ≤ 1000000 → AllByRecursion IsValidCommand wishes → MayBeValid (option_map (entry_of window) (slice_get wishes 0))
+valid_first : (window : ℕ) (wishes : List Command) → window ≤ 1000000 → AllByRecursion IsValidCommand wishes
+    → MayBeValid (option_map (entry_of window) (slice_get wishes 0))
 valid_first window [] number valid = tt
 valid_first window (command ∷ wishes) number valid = valid_entry_of window command number valid.0
 
@@ -51,6 +54,6 @@ valid_filler slot s = may_if (is_touched (acceptor_at s slot)) entries.Nothing t
 
 pub valid_value : (n : Node SequencerState) → IsOrderly n → MayBeValid (value_for (agreed_by n.base) n.own)
 valid_value n is =
-    may_or (wished_value (agreed_by n.base) n.own) _ (valid_wish n is)
-    (may_or (renewal (agreed_by n.base) n.own) _ (valid_renewal n.base n.own is.base)
-    (may_or (cut (agreed_by n.base) n.own) _ (valid_cut n.base n.own is.base) (valid_filler (agreed_by n.base).slots n.own)))
+    on_first MayBeValid (wished_value (agreed_by n.base) n.own) _ (valid_wish n is)
+    (on_first MayBeValid (renewal (agreed_by n.base) n.own) _ (valid_renewal n.base n.own is.base)
+    (on_first MayBeValid (cut (agreed_by n.base) n.own) _ (valid_cut n.base n.own is.base) (valid_filler (agreed_by n.base).slots n.own)))

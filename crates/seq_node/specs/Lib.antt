@@ -8,4 +8,5 @@ pub mod Restart
 pub mod Sound
 pub mod UnderWay
 pub mod Laws
+pub mod Messages
 pub mod Rows

@@ -1,13 +1,12 @@
 -- What holds of a turn in the midst of a sequencer's step.
-use Rattle.std.specs.Prelude.{◌≡◌, IsTrue}
+use Rattle.std.specs.Prelude.{◌≡◌}
 use Rattle.std.specs.List.{AllByRecursion, fold}
-use Rattle.msg_wire.specs.Nodes.{is_sequencer}
 use Rattle.msg_wire.specs.Valid.{IsValidMessage, IsValidItem}
 use Rattle.node_rules.specs.Nodes.{Node}
 use Rattle.node_rules.specs.Turns.{Turn}
 use Rattle.seq_node.specs.States.{SequencerState}
 use Rattle.seq_node.specs.Restart.{fit, reset_of}
-use Rattle.seq_node.specs.Sound.{IsOrderly}
+use Rattle.seq_node.specs.Sound.{IsOrderly, IsSequencer}
 
 -- the node is in order still, what the turn stores and sends is valid, and a restart would leave what the stored items leave
 pub record IsKept (n : Node SequencerState) (t : Turn SequencerState) : Type 0 where
@@ -19,5 +18,5 @@ pub record IsKept (n : Node SequencerState) (t : Turn SequencerState) : Type 0 w
 -- the turn began at a sequencer
 pub record IsUnderWay (t : Turn SequencerState) : Type 0 where
   pub first : Node SequencerState
-  pub kind : IsTrue (is_sequencer first.base.me)
+  pub began : IsSequencer first
   pub kept : IsKept first t

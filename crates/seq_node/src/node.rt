@@ -1,17 +1,19 @@
 ghost use Rattle.std.specs.Prelude.{◌≡◌, true, false, IfOk, OnOk, OnErr, IsTrue};
 ghost use Rattle.msg_wire.specs.Nodes.{is_sequencer};
-ghost use Rattle.msg_wire.specs.Valid.{IsValidConfig, IsNodeOf, IsValidEvent, AreValidItems};
+ghost use Rattle.msg_wire.specs.Valid.{IsValidConfig, IsNodeOf, IsValidMessage, IsValidEvent, AreValidItems};
 ghost use Rattle.msg_wire.specs.Steps.{IsValidStep};
 ghost use Rattle.node_rules.specs.Bases.{first_window};
-ghost use Rattle.node_rules.specs.Turns.{turn_of};
+ghost use Rattle.node_rules.specs.Names.events;
+ghost use Rattle.node_rules.specs.Turns.{turn_of, empty_step};
 ghost use Rattle.seq_node.specs.Steps.{sequencer_step};
 ghost use Rattle.seq_node.specs.Restart.{fresh_node, restart_of};
 
 use crate::restart::{fit_all, fresh};
 use crate::state::Sequencer;
-use crate::steps::take;
+use crate::steps::{deliver, take};
 use lease_window::Known;
-use msg_wire::{Config, Event, Items, Step};
+use msg_wire::{Config, Event, Items, Message, Step};
+use node_rules::empty_step;
 use quota_table::OutOfMemory;
 use spec_base::NodeId;
 use std::alloc::Global;
@@ -85,10 +87,42 @@ impl SeqNode {
         ensures ready { OnOk result (self.new.spent ≡ false) }
         ensures spent { OnErr result (self.new.spent ≡ true) }
     {
-        self.spent = true;
-        let out = take(&mut self.node, alloc, event)?;
-        self.spent = false;
+        let mut out = empty_step(alloc);
+        self.step_into(event, &mut out)?;
         Ok(out)
+    }
+
+    /// The step of an event, written into a step that gives nothing yet. After want of memory the sequencer is spent, and
+    /// what `out` gives is no step.
+    pub fn step_into(&mut self, event: &Event, out: &mut Step) -> Result<(), OutOfMemory>
+        requires ready { self.old.spent ≡ false }
+        requires valid { IsValidEvent event.now }
+        requires empty { out.old ≡ empty_step }
+        ensures turn { OnOk result (turn_of self.new.node out.new ≡ sequencer_step self.old.node event.now) }
+        ensures valid { OnOk result (IsValidStep out.new) }
+        ensures ready { OnOk result (self.new.spent ≡ false) }
+        ensures spent { OnErr result (self.new.spent ≡ true) }
+    {
+        self.spent = true;
+        take(&mut self.node, event, out)?;
+        self.spent = false;
+        Ok(())
+    }
+
+    /// The step of a message that comes, as `step_into` makes it of the event; the message is not copied.
+    pub fn deliver_into(&mut self, message: &Message, out: &mut Step) -> Result<(), OutOfMemory>
+        requires ready { self.old.spent ≡ false }
+        requires valid { IsValidMessage message.now }
+        requires empty { out.old ≡ empty_step }
+        ensures turn { OnOk result (turn_of self.new.node out.new ≡ sequencer_step self.old.node (events.Deliver message.now)) }
+        ensures valid { OnOk result (IsValidStep out.new) }
+        ensures ready { OnOk result (self.new.spent ≡ false) }
+        ensures spent { OnErr result (self.new.spent ≡ true) }
+    {
+        self.spent = true;
+        deliver(&mut self.node, message, out)?;
+        self.spent = false;
+        Ok(())
     }
 
     /// The agreed entries that the sequencer knows.

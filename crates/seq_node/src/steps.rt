@@ -1,15 +1,15 @@
 //! A sequencer's step: each event with its rules, and the beginning that ends the step of sequencer 0.
 
-ghost use Rattle.std.specs.Prelude.{◌≡◌, ◌<◌, ◌≤◌, ◌==◌, ◌&&◌, IfOk, OnOk, IsTrue};
+ghost use Rattle.std.specs.Prelude.{◌≡◌, ◌<◌, ◌≤◌, true, IfOk, OnOk, IsTrue};
 ghost use Rattle.record_codec.specs.Entries.{IsValidEntry};
 ghost use Rattle.msg_wire.specs.Nodes.{number_of};
 ghost use Rattle.msg_wire.specs.Heeded.{is_heeded};
 ghost use Rattle.msg_wire.specs.Valid.{IsValidMessage, IsValidEvent};
-ghost use Rattle.msg_wire.specs.Steps.{IsValidStep};
+ghost use Rattle.node_rules.specs.Names.events;
 ghost use Rattle.node_rules.specs.Turns.{turn_of, empty_step};
 ghost use Rattle.node_rules.specs.Rules.{heed, learn_next, decided};
 ghost use Rattle.seq_node.specs.Learning.{on_learned};
-ghost use Rattle.seq_node.specs.Steps.{hear, react, ends_with_beginning, finish, sequencer_step};
+ghost use Rattle.seq_node.specs.Steps.{hear, ends_with_beginning, finish, sequencer_step};
 ghost use Rattle.seq_node.specs.Sound.{IsSequencer};
 ghost use Rattle.seq_node.specs.UnderWay.{IsUnderWay};
 
@@ -21,69 +21,53 @@ use crate::rules::{hear_accept, hear_learn, hear_prepare, hear_report};
 use crate::state::Sequencer;
 use crate::ticks::{on_tick, take_command};
 use msg_wire::{Event, Message, Step, What};
-use node_rules::{empty_step, number_of};
+use node_rules::number_of;
 use quota_table::{Entry, OutOfMemory};
 use spec_base::NodeId;
-use std::alloc::Global;
 
-/// The step of an event: its own rule, and then the end of a step.
-pub fn take(seq: &mut Sequencer, alloc: Global, event: &Event) -> Result<Step, OutOfMemory>
+/// The step of an event, written into a step that gives nothing yet.
+pub fn take(seq: &mut Sequencer, event: &Event, out: &mut Step) -> Result<(), OutOfMemory>
     requires sound { IsSequencer seq.old }
     requires valid { IsValidEvent event.now }
-    ensures turn { IfOk result (λ out. turn_of seq.new out ≡ sequencer_step seq.old event.now) }
-    ensures valid { IfOk result (λ out. IsValidStep out) }
-    ensures sound { OnOk result (IsSequencer seq.new) }
-{
-    let mut out = empty_step(alloc);
-    react(seq, event, &mut out)?;
-    finish(seq, event, &mut out)?;
-    Ok(out)
-}
-
-/// The event's own rule, with which a step begins.
-fn react(seq: &mut Sequencer, event: &Event, out: &mut Step) -> Result<(), OutOfMemory>
-    requires sound { IsSequencer seq.old }
-    requires valid { IsValidEvent event.now }
-    requires begins { out.old ≡ empty_step }
-    ensures { OnOk result (turn_of seq.new out.new ≡ react event.now (turn_of seq.old out.old)) }
+    requires empty { out.old ≡ empty_step }
+    ensures { OnOk result (turn_of seq.new out.new ≡ sequencer_step seq.old event.now) }
 {
     match event {
-        Event::Deliver(message) => heed(seq, message, out),
+        Event::Deliver(message) => deliver(seq, message, out),
         Event::Command(command) => take_command(seq, command, out),
         Event::Tick => on_tick(seq, out),
         Event::Restart => {
             reset(seq);
             Ok(())
         }
-        Event::Submit { .. } => Ok(()),
+        Event::Submit { .. } => finish(seq, out),
     }
 }
 
-/// The end of a step: sequencer 0 begins where no attempt stands.
-fn finish(seq: &mut Sequencer, event: &Event, out: &mut Step) -> Result<(), OutOfMemory>
-    requires { IsUnderWay (turn_of seq.old out.old) }
-    ensures { OnOk result (turn_of seq.new out.new ≡ finish event.now (turn_of seq.old out.old)) }
+/// The step of a message that comes.
+pub fn deliver(seq: &mut Sequencer, message: &Message, out: &mut Step) -> Result<(), OutOfMemory>
+    requires sound { IsSequencer seq.old }
+    requires valid { IsValidMessage message.now }
+    requires empty { out.old ≡ empty_step }
+    ensures { OnOk result (turn_of seq.new out.new ≡ sequencer_step seq.old (events.Deliver message.now)) }
 {
-    if ends_here(seq, event) {
+    heed(seq, message, out)?;
+    finish(seq, out)
+}
+
+/// The end of the step of an event that ends with a beginning: sequencer 0 begins where no attempt stands.
+///
+/// A restart does not end so, nor do a command and a tick, which have begun by their own rules.
+fn finish(seq: &mut Sequencer, out: &mut Step) -> Result<(), OutOfMemory>
+    requires { IsUnderWay (turn_of seq.old out.old) }
+    ensures { (event : _) → ends_with_beginning event ≡ true → OnOk result (turn_of seq.new out.new ≡ finish event (turn_of seq.old out.old)) }
+{
+    let is_first = number_of(seq.base.me()) == 0;
+    if is_first {
         begin_if_free(seq, out)
     } else {
         Ok(())
     }
-}
-
-/// Whether the end of an event's step begins at this sequencer.
-fn ends_here(seq: &Sequencer, event: &Event) -> bool
-    ensures { result ≡ ((number_of seq.now.base.me == 0) && ends_with_beginning event.now) }
-{
-    number_of(seq.base.me()) == 0 && ends_with_beginning(event)
-}
-
-/// Whether the end of an event's step begins: not that of a restart, and not that of a command and a tick, which have
-/// begun by their own rules.
-fn ends_with_beginning(event: &Event) -> bool
-    ensures { result ≡ ends_with_beginning event.now }
-{
-    matches!(event, Event::Deliver(_) | Event::Submit { .. })
 }
 
 /// A message that comes. One that is not heeded does nothing by itself.

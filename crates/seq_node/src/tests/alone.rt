@@ -1,9 +1,9 @@
 //! Clusters with one sequencer, by which all is decided at once.
 
-use super::Comes::*;
-use super::clusters::{ONE_ROW, pair, single};
 use super::live;
 use crate::SeqNode;
+use life_tables::Comes::*;
+use life_tables::clusters::{ONE_ROW, one_at_two, single};
 use spec_base::NodeId;
 use std::test::Fail;
 
@@ -54,7 +54,7 @@ fn a_round_is_cut_once_both_replicas_have_it(rt: HostRuntime) -> Result<(), Fail
 fn a_row_that_lags_is_filled(rt: HostRuntime) -> Result<(), Fail> {
     let alloc = rt.alloc();
     let me = NodeId::Seq(0);
-    let mut node = SeqNode::new(alloc, &pair(alloc)?, me)?;
+    let mut node = SeqNode::new(alloc, &one_at_two(alloc)?, me)?;
     let turns = [
         ("s0p", Report(1), ""),
         ("s0b", Report(1), ""),
@@ -88,7 +88,7 @@ fn commands_are_proposed(rt: HostRuntime) -> Result<(), Fail> {
     let me = NodeId::Seq(0);
     let mut node = SeqNode::new(alloc, &single(alloc)?, me)?;
     let turns = [
-        ("", Submit, ""),
+        ("", Submit(b"5"), ""),
         (
             "",
             Table(4, ONE_ROW),

@@ -1,9 +1,10 @@
 //! What an independent model of the protocol gave in a longer history: the steps of the last of five sequencers.
 
-use super::Comes::*;
-use super::clusters::{SIX_ROWS, six_shards};
-use super::{Value, live};
+use super::live;
 use crate::SeqNode;
+use life_tables::Comes::*;
+use life_tables::Value;
+use life_tables::clusters::{SIX_ROWS, six_shards};
 use spec_base::NodeId;
 use std::test::Fail;
 

@@ -1,9 +1,10 @@
 //! Clusters with three sequencers.
 
-use super::Comes::*;
-use super::clusters::{ONE_ROW, TWO_PLACES, TWO_ROWS, eight_rounds, trio};
-use super::{Value, live};
+use super::live;
 use crate::SeqNode;
+use life_tables::Comes::*;
+use life_tables::Value;
+use life_tables::clusters::{ONE_ROW, TWO_PLACES, TWO_ROWS, eight_rounds, three_at_two};
 use spec_base::NodeId;
 use std::test::Fail;
 
@@ -11,7 +12,7 @@ use std::test::Fail;
 fn the_first_sequencer_sends_at_ballot_zero(rt: HostRuntime) -> Result<(), Fail> {
     let alloc = rt.alloc();
     let me = NodeId::Seq(0);
-    let mut node = SeqNode::new(alloc, &trio(alloc)?, me)?;
+    let mut node = SeqNode::new(alloc, &three_at_two(alloc)?, me)?;
     let turns = [
         (
             "",
@@ -46,7 +47,7 @@ fn the_first_sequencer_sends_at_ballot_zero(rt: HostRuntime) -> Result<(), Fail>
 fn a_later_ballot_takes_what_was_accepted(rt: HostRuntime) -> Result<(), Fail> {
     let alloc = rt.alloc();
     let me = NodeId::Seq(1);
-    let mut node = SeqNode::new(alloc, &trio(alloc)?, me)?;
+    let mut node = SeqNode::new(alloc, &three_at_two(alloc)?, me)?;
     let turns = [
         (
             "",
@@ -102,7 +103,7 @@ fn a_later_ballot_takes_what_was_accepted(rt: HostRuntime) -> Result<(), Fail> {
 fn an_attempt_is_begun_anew(rt: HostRuntime) -> Result<(), Fail> {
     let alloc = rt.alloc();
     let me = NodeId::Seq(1);
-    let mut node = SeqNode::new(alloc, &trio(alloc)?, me)?;
+    let mut node = SeqNode::new(alloc, &three_at_two(alloc)?, me)?;
     let turns = [
         (
             "",
@@ -140,7 +141,7 @@ fn an_attempt_is_begun_anew(rt: HostRuntime) -> Result<(), Fail> {
 fn an_acceptor_keeps_its_promise(rt: HostRuntime) -> Result<(), Fail> {
     let alloc = rt.alloc();
     let me = NodeId::Seq(2);
-    let mut node = SeqNode::new(alloc, &trio(alloc)?, me)?;
+    let mut node = SeqNode::new(alloc, &three_at_two(alloc)?, me)?;
     let turns = [
         (
             "q1",
