@@ -1,5 +1,5 @@
 -- Shards that are gone, closed one shard after another in place of one gone shard after another.
-use Rattle.std.proofs.Common.{◌≡◌, ◌⊎◌, inl, inr, ℕ, zero, suc, ◌+◌, ◌<◌, ◌≤◌, ◌==◌, nat_lt, cond, Bool, true, false, List, [], ◌∷◌, length, length-set, Option, Some, None, refl, sym, ap, subst, ◌∙◌, arith}
+use Rattle.std.proofs.Common.{◌≡◌, inl, inr, ℕ, zero, suc, ◌+◌, ◌<◌, ◌≤◌, ◌==◌, nat_lt, Bool, true, false, List, [], ◌∷◌, length, length-set, Option, Some, None, refl, sym, ap, subst, ◌∙◌, arith}
 use Rattle.std.specs.Prelude.{slice_set}
 use Rattle.std.specs.List.{AllByRecursion, filter, fold, range_with_len}
 use Rattle.std.specs.Option.{option_map_or}
@@ -8,7 +8,7 @@ use Rattle.cut_core.specs.declared.gone.Gone.{Gone}
 use Rattle.cut_core.specs.Map.{end_among}
 use Rattle.cut_core.proofs.Ends.{AreCounts, end_among-counted}
 use Rattle.node_rules.specs.Names.{Record}
-use Rattle.spec_delivery.specs.Lanes.{LaneState, IsInReach, HoldsInReach, fresh_lane, closed}
+use Rattle.spec_delivery.specs.Lanes.{LaneState, IsInReach, HoldsInReach, closed}
 use Rattle.spec_delivery.specs.Buffers.{lane_of, with_end}
 use Rattle.consumer_node.specs.Rules.{close}
 use Rattle.consumer_node.specs.Closing.{close_shard}

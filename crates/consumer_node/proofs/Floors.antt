@@ -5,7 +5,7 @@ use Rattle.std.specs.List.{AllByRecursion}
 use Rattle.node_rules.specs.Names.{Record}
 use Rattle.spec_delivery.specs.declared.put.Put.{Put}
 use Rattle.spec_delivery.specs.declared.put.Put.TheVariants.{Old, Far, Again, Kept}
-use Rattle.spec_delivery.specs.Lanes.{LaneState, after_put, raised, closed, emptied}
+use Rattle.spec_delivery.specs.Lanes.{LaneState, after_put, raised, closed}
 use Rattle.spec_delivery.specs.Buffers.{fresh_buffer, lane_of, answer_to, with_record, with_floor, with_end, without_records}
 use Rattle.consumer_node.specs.Kept.{AreLanes}
 

@@ -1,20 +1,18 @@
 -- What the items of a vault give is a consumer, whatever valid items they are.
-use Rattle.std.proofs.Common.{◌≡◌, true, List, [], ◌∷◌, length, drop, Option, Some, None, refl, sym, ap, subst, arith}
+use Rattle.std.proofs.Common.{◌≡◌, true, List, [], ◌∷◌, length, drop, Option, Some, None, refl, ap, arith}
 use Rattle.std.specs.List.{fold}
 use Rattle.std.specs.Option.{option_map_or}
 use Rattle.record_codec.specs.Entries.{IsValidEntry}
 use Rattle.fix_ante.specs.declared.spots.Owner.{Owner}
-use Rattle.cut_core.specs.Agreements.{Agreement, agreement_from}
 use Rattle.cut_core.specs.Agreeing.{IsBelowFirst}
 use Rattle.cut_core.specs.Effects.{effect_of}
 use Rattle.cut_core.specs.Map.{located}
-use Rattle.cut_core.proofs.AgreeingLemmas.{applied_all-push}
 use Rattle.msg_wire.specs.Valid.{IsValidConfig, IsNodeOf, IsValidItem, AreValidItems}
 use Rattle.node_rules.specs.Names.{NodeId, Config, Entry, Record, Item}
 use Rattle.node_rules.specs.Names.items
 use Rattle.node_rules.specs.Nodes.{Node, first_window, agreed_by, has_slot, knowing, with_own}
 use Rattle.node_rules.specs.Sound.{IsBase}
-use Rattle.node_rules.proofs.SoundTurns.{on_test}
+use Rattle.node_rules.proofs.Lists.{on_test}
 use Rattle.consumer_node.specs.Apps.{Meaning}
 use Rattle.consumer_node.specs.States.{ConsumerState}
 use Rattle.consumer_node.specs.Speculation.{with_confirmed}
@@ -22,8 +20,8 @@ use Rattle.consumer_node.specs.Restart.{fresh_node, fit, closed_by, restart_of}
 use Rattle.consumer_node.specs.Sound.{IsConsumer}
 use Rattle.consumer_node.proofs.Owners.{agreement_by}
 use Rattle.consumer_node.proofs.Owned.{IsLearned, Any, own_open, own_fresh, confirm_learned}
-use Rattle.consumer_node.proofs.Learned.{own_learned, own_uncut, own_closed}
-use Rattle.consumer_node.proofs.Turns.{base_knowing}
+use Rattle.consumer_node.proofs.Learned.{own_knowing, own_uncut, own_closed}
+use Rattle.node_rules.proofs.Limits.{base_knowing}
 
 -- before the gone shards are closed
 pub record IsFitted {A : Type 0} (n : Node (ConsumerState A)) : Type 0 where
@@ -35,14 +33,12 @@ pub record IsFitted {A : Type 0} (n : Node (ConsumerState A)) : Type 0 where
 
 fitted_known : {A : Type 0} (n : Node (ConsumerState A)) (entry : Entry) → IsValidEntry entry → has_slot n.base ≡ true → IsFitted n → IsFitted (record n { base = knowing entry n.base })
 fitted_known n entry valid slot is =
-    let first = agreement_from (first_window n.base.cfg) in
-    let learned = own_learned (agreed_by n.base) entry n.own (agreement_by n.base is.base) is.own in
     let empty : length n.own.pending ≡ 0 = ap length is.none in
     record {
       base = base_knowing entry n.base valid slot is.base;
       own =
           own_uncut (IsBelowFirst (effect_of (agreed_by n.base) entry)) (agreed_by (knowing entry n.base)) n.own (λ i below. absurd (omega (arith, below, empty)))
-          (subst (λ (a : Agreement). IsLearned (IsBelowFirst (effect_of (agreed_by n.base) entry)) a n.own) (sym (applied_all-push first n.base.known entry)) learned);
+          (own_knowing n.base entry n.own is.base is.own);
       none = is.none;
     }
 

@@ -1,5 +1,5 @@
 -- What holds of a consumer's own part at a learned entry: what a removal moves is undone, and the shards that are gone are closed.
-use Rattle.std.proofs.Common.{◌≡◌, ℕ, zero, suc, ◌+◌, ◌<◌, ◌==◌, false, List, [], ◌∷◌, length, length-append, take, Option, Some, None, refl, sym, ap, ◌∙◌, inl, inr, arith}
+use Rattle.std.proofs.Common.{◌≡◌, ℕ, zero, suc, ◌+◌, ◌<◌, ◌==◌, false, List, [], ◌∷◌, length, length-append, take, Option, Some, None, refl, sym, ap, subst, ◌∙◌, inl, inr, arith}
 use Rattle.std.specs.List.{slice_get, fold}
 use Rattle.std.specs.Option.{option_and_then}
 use Rattle.std.proofs.lemmas.Bool.{cases_Bool, cond-false, or_parts}
@@ -7,22 +7,24 @@ use Rattle.std.proofs.lemmas.List.{take-append-le, length-take}
 use Rattle.std.proofs.lemmas.Option.{slice_get_within}
 use Rattle.quota_table.specs.declared.entry.Entry.{Entry}
 use Rattle.cut_core.specs.declared.gone.Gone.{Gone}
-use Rattle.cut_core.specs.Agreements.{Agreement, count_of}
+use Rattle.cut_core.specs.Agreements.{Agreement, agreement_from, count_of}
 use Rattle.cut_core.specs.Effects.{effect_of}
 use Rattle.cut_core.specs.Fold.{applied}
 use Rattle.cut_core.specs.Map.{map_of, mapped, gone_end, end_among}
 use Rattle.cut_core.specs.Agreeing.{IsBelowFirst}
-use Rattle.cut_core.proofs.AgreeingLemmas.{covered-applied, mapped-applied}
+use Rattle.cut_core.proofs.AgreeingLemmas.{covered-applied, mapped-applied, applied_all-push}
 use Rattle.cut_core.proofs.Ends.{is_among}
 use Rattle.cut_core.proofs.Finding.{dense-below}
 use Rattle.cut_core.proofs.GoneEnds.{gone_end-ended, gone_end-applied_all}
 use Rattle.cut_core.proofs.Consistent.{IsConsistent-sound}
+use Rattle.node_rules.specs.Nodes.{Base, first_window, agreed_by, knowing}
+use Rattle.node_rules.specs.Sound.{IsBase}
 use Rattle.consumer_node.specs.States.{ConsumerState, with_pending}
 use Rattle.consumer_node.specs.Speculation.{held_of}
 use Rattle.consumer_node.specs.Rules.{close, close_gone}
 use Rattle.consumer_node.specs.Sound.{IsOwn}
 use Rattle.consumer_node.proofs.Buffers.{length_closed, all_closed, floor_closed, end_other, end_closed, held_below}
-use Rattle.consumer_node.proofs.Owners.{IsAgreement}
+use Rattle.consumer_node.proofs.Owners.{IsAgreement, agreement_by}
 use Rattle.consumer_node.proofs.Applied.{applied_at}
 use Rattle.consumer_node.proofs.Owned.{IsLearned, Any, applied_still}
 
@@ -34,7 +36,7 @@ end_before a entry shard (Some end) e none =
     let stays : gone_end (applied a entry) shard ≡ Some end = gone_end-applied_all a (entry ∷ []) shard end e in
     absurd (cc)
 
-pub own_learned : {A : Type 0} (a : Agreement) (entry : Entry) (s : ConsumerState A) → IsAgreement a → IsLearned Any a s → IsLearned (IsBelowFirst (effect_of a entry)) (applied a entry) s
+own_learned : {A : Type 0} (a : Agreement) (entry : Entry) (s : ConsumerState A) → IsAgreement a → IsLearned Any a s → IsLearned (IsBelowFirst (effect_of a entry)) (applied a entry) s
 own_learned a entry s agreed is =
     let more = covered-applied a entry in
     record {
@@ -52,6 +54,12 @@ own_learned a entry s agreed is =
           mapped-applied a entry (s.confirmed + i) agreed.sound (slice_get_within (map_of a) (s.confirmed + i) at.owner at.position) stays in
           ap (option_and_then (held_of s.lanes)) same ∙ held;
     }
+
+-- so it is of what a node's entries agree on
+pub own_knowing : {A : Type 0} (b : Base) (entry : Entry) (s : ConsumerState A) → IsBase b → IsLearned Any (agreed_by b) s → IsLearned (IsBelowFirst (effect_of (agreed_by b) entry)) (agreed_by (knowing entry b)) s
+own_knowing b entry s base is =
+    subst (λ (a : Agreement). IsLearned (IsBelowFirst (effect_of (agreed_by b) entry)) a s) (sym (applied_all-push (agreement_from (first_window b.cfg)) b.known entry))
+    (own_learned (agreed_by b) entry s (agreement_by b base) is)
 
 -- ---- what is undone
 

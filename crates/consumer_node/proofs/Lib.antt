@@ -9,11 +9,13 @@ pub mod Learned
 pub mod Bare
 pub mod Reached
 pub mod Outputs
+pub mod Places
+pub mod Stages
+pub mod Walk
 pub mod Turns
 pub mod Items
-pub mod Tables
-pub mod Finishing
 pub mod Lives
+pub mod Within
 pub mod Standing
 pub mod Keeping
 pub mod Floors

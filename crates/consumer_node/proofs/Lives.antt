@@ -1,60 +1,31 @@
 -- Every life of valid events: its node is a consumer, its steps are valid, and its stored items give what a restart leaves.
-use Rattle.std.proofs.Common.{◌≡◌, List, [], ◌∷◌, refl, sym, ap, ◌∙◌, arith}
+use Rattle.std.proofs.Common.{◌≡◌, List, [], ◌∷◌, refl, sym, ap, ◌∙◌}
 use Rattle.std.specs.List.{AllByRecursion, fold}
 use Rattle.std.proofs.lemmas.List.Sums.{fold-append}
-use Rattle.msg_wire.specs.Heeded.{is_heeded}
 use Rattle.msg_wire.specs.Steps.{IsValidStep}
 use Rattle.msg_wire.specs.Valid.{IsValidConfig, IsNodeOf, IsValidEvent}
 use Rattle.node_rules.specs.Names.{NodeId, Config, Event}
-use Rattle.node_rules.specs.Names.events
-use Rattle.node_rules.specs.Nodes.{Node}
-use Rattle.node_rules.specs.Turns.{Turn, started, step_of}
+use Rattle.node_rules.specs.Nodes.{Node, agreed_by}
+use Rattle.node_rules.specs.Turns.{Turn, step_of}
 use Rattle.node_rules.specs.Lives.{Life, lived_on}
-use Rattle.node_rules.proofs.SoundTurns.{on_test}
 use Rattle.consumer_node.specs.Apps.{Meaning}
 use Rattle.consumer_node.specs.States.{ConsumerState}
-use Rattle.consumer_node.specs.Steps.{hear, restart, consumer_step}
+use Rattle.consumer_node.specs.Steps.{consumer_step}
 use Rattle.consumer_node.specs.Restart.{fit, closed_by, fresh_node, reset_of}
 use Rattle.consumer_node.specs.Laws.{consumer_life, RestartIsTheItems, StepsAreValid}
 use Rattle.consumer_node.specs.Sound.{IsConsumer}
-use Rattle.consumer_node.proofs.Bare.{with_bare, bare_of, bare_without, closed_bare}
+use Rattle.consumer_node.proofs.Bare.{bare_of, closed_bare}
 use Rattle.consumer_node.proofs.Owned.{own_reset}
 pub use Rattle.consumer_node.proofs.Items.{fresh_sound}
 use Rattle.consumer_node.proofs.Reached.{IsReached, OutputsFitFrom, reached_none, reached_later, fit_later}
-use Rattle.consumer_node.proofs.Turns.{IsKept}
-use Rattle.consumer_node.proofs.Tables.{kept_hear, kept_on_tick}
-use Rattle.consumer_node.proofs.Finishing.{kept_finish}
+use Rattle.consumer_node.proofs.Turns.{IsKept, base_reset}
+pub use Rattle.consumer_node.proofs.Turns.{kept_step}
 
 -- what a restart leaves of a consumer is one
 pub reset_sound : {A : Type 0} (n : Node (ConsumerState A)) → IsConsumer n → IsConsumer (reset_of n)
-reset_sound n is = record {
-  base = record { cfg = is.base.cfg; me = is.base.me; entries = is.base.entries; few = is.base.few; seen = omega arith; ticks = omega arith };
-  own = own_reset _ n.own is.own;
-}
+reset_sound n is = record { base = base_reset n.base is.base; own = own_reset (agreed_by n.base) n.own is.own }
 
 module _ {A : Type 0} (app : Meaning A) where
-  -- ---- steps
-
-  pub kept_started : (n : Node (ConsumerState A)) → IsConsumer n → IsKept app n (started n)
-  kept_started n is = record { sound = is; given = record { stored = refl; reached = reached_none app n.own.base; stable = λ outputs. tt; sends = tt } }
-
-  kept_restart : (n : Node (ConsumerState A)) → IsConsumer n → IsKept app n (restart n)
-  kept_restart n is = record {
-    sound = reset_sound n is;
-    given = record { stored = ap (with_bare n n.own) (sym (bare_without n.own.lanes)); reached = reached_none app n.own.base; stable = λ outputs. tt; sends = tt };
-  }
-
-  pub kept_step : (n : Node (ConsumerState A)) (event : Event) → IsConsumer n → IsValidEvent event → IsKept app n (consumer_step app n event)
-  kept_step n (events.Deliver message) is valid =
-      kept_finish app n _
-      (on_test (IsKept app n) (is_heeded n.base.cfg n.base.me message) (hear message.from message.what (started n)) (started n)
-      (λ _. kept_hear app n message.from message.what (started n) valid.from valid.what (kept_started n is))
-      (λ _. kept_started n is))
-  kept_step n events.Tick is valid = kept_finish app n _ (kept_on_tick app n (started n) (kept_started n is))
-  kept_step n events.Restart is valid = kept_restart n is
-  kept_step n (events.Submit by body) is valid = kept_finish app n _ (kept_started n is)
-  kept_step n (events.Command command) is valid = kept_finish app n _ (kept_started n is)
-
   -- ---- lives
 
   -- what holds of a life so far
@@ -69,7 +40,7 @@ module _ {A : Type 0} (app : Meaning A) where
     reached = reached_later app (app.fresh cfg.app) life.node.own.base t.state.own.base is.reached kept.given.reached;
     stored =
         fold-append (fit app) (fresh_node app cfg me) life.stored t.stable
-        ∙ (ap (λ (m : Node (ConsumerState A)). fold (fit app) m t.stable) is.stored ∙ kept.given.stored);
+        ∙ (ap (λ (m : Node (ConsumerState A)). fold (fit app) m t.stable) is.stored ∙ kept.given.leads);
   }
 
   pub lives : (cfg : Config) (me : NodeId) (events : List Event) → IsValidConfig cfg → IsNodeOf cfg me → AllByRecursion IsValidEvent events → IsLife cfg me (consumer_life app cfg me events)
@@ -77,7 +48,7 @@ module _ {A : Type 0} (app : Meaning A) where
   lives cfg me (event ∷ events) valid here each =
       let before = lives cfg me events valid here each.1 in
       let node = (consumer_life app cfg me events).node in
-      lived cfg me (consumer_life app cfg me events) (consumer_step app node event) before (kept_step node event before.sound each.0)
+      lived cfg me (consumer_life app cfg me events) (consumer_step app node event) before (kept_step app node event before.sound each.0)
 
   pub restart_is_the_items : RestartIsTheItems app
   restart_is_the_items cfg me events valid here each =
@@ -90,7 +61,7 @@ module _ {A : Type 0} (app : Meaning A) where
   reached_steps_are_valid cfg me events event fit valid here each next =
       let node = (consumer_life app cfg me events).node in
       let life = lives cfg me events valid here each in
-      let kept = kept_step node event life.sound next in
+      let kept = kept_step app node event life.sound next in
       record { stable = kept.given.stable (fit_later app (app.fresh cfg.app) node.own.base life.reached fit); sends = kept.given.sends }
 
   pub steps_are_valid : StepsAreValid app

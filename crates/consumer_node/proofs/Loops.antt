@@ -1,21 +1,21 @@
 -- Folds over one more number, and what a consumer applies and confirms one record after another.
-use Rattle.std.proofs.Common.{◌≡◌, ℕ, zero, suc, ◌+◌, ◌-◌, ◌<◌, ◌≤◌, ◌==◌, List, [], ◌∷◌, ◌++◌, length, length-append, map, take, drop, Option, Some, None, Ok, Err, OnOk, refl, sym, ap, subst, ◌∙◌, arith}
-use Rattle.std.specs.Prelude.{min, if◌then◌else◌, Result}
+use Rattle.std.proofs.Common.{◌≡◌, ℕ, zero, suc, ◌+◌, ◌-◌, ◌≤◌, ◌==◌, List, [], ◌∷◌, ◌++◌, length, length-append, map, take, drop, Option, Some, None, Ok, Err, OnOk, refl, sym, ap, ◌∙◌, arith}
+use Rattle.std.specs.Prelude.{min, Result}
 use Rattle.std.specs.List.{slice_get, fold, range_with_len}
 use Rattle.std.specs.Option.{option_map_or, option_and_then, some_prefix}
 use Rattle.std.proofs.lemmas.Grind.{fold-append}
 use Rattle.fix_ante.specs.declared.spots.Owner.{Owner}
-use Rattle.cut_core.specs.Map.{map_of, mapped, located}
-use Rattle.node_rules.specs.Names.{Record, Mark, Message}
-use Rattle.node_rules.specs.Names.marks
+use Rattle.cut_core.specs.Map.{map_of}
+use Rattle.node_rules.specs.Names.{Record}
 use Rattle.node_rules.specs.Nodes.{Node, agreed_by}
-use Rattle.node_rules.specs.Turns.{Turn, own_of, agreed, put_own, store, show}
-use Rattle.node_rules.proofs.SoundTurns.{on_test}
+use Rattle.node_rules.specs.Turns.{Turn, own_of, agreed, put_own}
+use Rattle.node_rules.proofs.Lists.{on_test}
 use Rattle.consumer_node.specs.Apps.{Meaning}
 use Rattle.consumer_node.specs.States.{ConsumerState, applied}
-use Rattle.consumer_node.specs.Speculation.{held_of, to_apply, apply, apply_all, to_confirm, with_confirmed, show_output, confirm_at, confirm, confirm_some}
+use Rattle.consumer_node.specs.Speculation.{held_of, to_apply, apply, apply_all, with_confirmed, confirm_at, confirm, confirm_some}
 use Rattle.consumer_node.specs.Sound.{held_for}
 use Rattle.consumer_node.specs.Confirming.{confirm_first, confirm_oldest, confirm_count}
+use Rattle.consumer_node.proofs.Applied.{some_at}
 
 -- ---- one number more
 
@@ -70,13 +70,15 @@ next-none f os n e =
     ] refl e
 
 -- the record of the next position is applied first
-pub apply-next : {A : Type 0} (t : Turn (ConsumerState A)) (rec : Record) → held_for (agreed t) (own_of t) (applied t) ≡ Some rec → apply_all (apply t rec) ≡ apply_all t
-apply-next t rec held =
+pub to_apply-next : {A : Type 0} (t : Turn (ConsumerState A)) (rec : Record) → held_for (agreed t) (own_of t) (applied t) ≡ Some rec → to_apply t ≡ rec ∷ to_apply (apply t rec)
+to_apply-next t rec held =
     let f : Owner → Option Record = held_of (own_of t).lanes in
     let os : List Owner = map_of (agreed t) in
     let place : applied (apply t rec) ≡ suc (applied t) = omega (arith, length-append (own_of t).pending (rec ∷ [])) in
-    let rest : to_apply (apply t rec) ≡ some_prefix (map f (drop (suc (applied t)) os)) = ap (λ (n : ℕ). some_prefix (map f (drop n os))) place in
-    ap (fold apply (apply t rec)) rest ∙ ap (fold apply t) (sym (next-some f os (applied t) rec held))
+    next-some f os (applied t) rec held ∙ ap (λ (n : ℕ). rec ∷ some_prefix (map f (drop n os))) (sym place)
+
+pub apply-next : {A : Type 0} (t : Turn (ConsumerState A)) (rec : Record) → held_for (agreed t) (own_of t) (applied t) ≡ Some rec → apply_all (apply t rec) ≡ apply_all t
+apply-next t rec held = ap (fold apply t) (sym (to_apply-next t rec held))
 
 pub apply-none : {A : Type 0} (t : Turn (ConsumerState A)) → held_for (agreed t) (own_of t) (applied t) ≡ None → t ≡ apply_all t
 apply-none t held = ap (fold apply t) (sym (next-none (held_of (own_of t).lanes) (map_of (agreed t)) (applied t) held))
@@ -107,17 +109,12 @@ module _ {A : Type 0} (app : Meaning A) where
       on_test (λ (u : Turn (ConsumerState A)). (put_own (with_confirmed app rec o (own_of t)) u).state ≡ record { base = t.state.base; own = with_confirmed app rec o (own_of t) })
       (length (app.output (own_of t).base rec) == 0) _ _ (λ _. refl) (λ _. refl)
 
-  found : {X : Type 0} (xs : List X) (n : ℕ) → n < length xs → (x : X) × (slice_get xs n ≡ Some x)
-  found [] n below = absurd (omega arith)
-  found (x ∷ xs) zero below = (x, refl)
-  found (x ∷ xs) (suc n) below = found xs n (omega arith)
-
   counted : (n : ℕ) (t : Turn (ConsumerState A)) (pending : List Record) → (own_of t).pending ≡ pending → n ≤ length (agreed t).covered - (own_of t).confirmed → fold (confirm app) t (take n pending) ≡ confirm_count app n t
   counted zero t [] is few = refl
   counted zero t (rec ∷ rest) is few = refl
   counted (suc n) t [] is few = sym (count-none (suc n) t is)
   counted (suc n) t (rec ∷ rest) is few =
-      let at = found (agreed t).covered (own_of t).confirmed (omega (arith, few)) in
+      let at = some_at (agreed t).covered (own_of t).confirmed (omega (arith, few)) in
       let o : Owner = at.0 in
       let after : Turn (ConsumerState A) = confirm_at app rec o t in
       let one : confirm app t rec ≡ after = ap (λ (owner : Option Owner). option_map_or (λ u. confirm_at app rec u t) owner t) at.1 in

@@ -1,5 +1,5 @@
 -- The owners of the map: their shards are 0 to 5, and their locals are within the limits.
-use Rattle.std.proofs.Common.{◌≡◌, ◌⊎◌, ℕ, zero, suc, ◌+◌, ◌*◌, ◌<◌, ◌≤◌, ◌^◌, true, nat_lt, List, [], ◌∷◌, ◌++◌, length, Option, Some, None, sym, ◌∙◌, subst, inl, inr, arith}
+use Rattle.std.proofs.Common.{◌≡◌, ◌⊎◌, ℕ, zero, suc, ◌+◌, ◌*◌, ◌<◌, ◌≤◌, ◌^◌, true, nat_lt, List, [], ◌∷◌, length, Option, Some, None, sym, ◌∙◌, subst, inl, inr, arith}
 use Rattle.std.specs.List.{AllByRecursion, list_all, slice_get}
 use Rattle.std.specs.Option.{option_or, IfSome}
 use Rattle.std.proofs.lemmas.Bool.{cases_Bool, cond-true, cond-false, and_parts, ltb-true}
@@ -27,15 +27,12 @@ use Rattle.cut_core.proofs.Parts.{owner_in_grant, mapped-parts}
 use Rattle.cut_core.proofs.AgreeingLemmas.{slots-applied_all}
 use Rattle.node_rules.specs.Nodes.{Base, first_window, agreed_by}
 use Rattle.node_rules.specs.Sound.{IsBase}
+use Rattle.node_rules.proofs.Lists.{all_append}
 
 abbrev pub IsSmall : Owner → Type 0
 IsSmall o = o.shard < 6
 
 -- ---- covered owners
-
-all_append : (xs ys : List Owner) → AllByRecursion IsSmall xs → AllByRecursion IsSmall ys → AllByRecursion IsSmall (xs ++ ys)
-all_append [] ys h k = k
-all_append (x ∷ xs) ys h k = (h.0, all_append xs ys h.1 k)
 
 owners_small : (shard local count : ℕ) → shard < 6 → AllByRecursion IsSmall (owners_from shard local count)
 owners_small shard local zero below = tt
@@ -46,13 +43,13 @@ round_small [] round rows = tt
 round_small (s ∷ ss) round rows =
     let parts = and_parts (is_row (row_of s)) (list_all is_row (rows_of ss)) rows in
     let below : s.shard < 6 = ltb-true s.shard 6 (and_parts (nat_lt s.shard 6) _ parts.0).0 in
-    all_append (owners_from s.shard (s.start + round * s.quota) s.quota) (round_of ss round) (owners_small s.shard (s.start + round * s.quota) s.quota below) (round_small ss round parts.1)
+    all_append IsSmall (owners_from s.shard (s.start + round * s.quota) s.quota) (round_of ss round) (owners_small s.shard (s.start + round * s.quota) s.quota below) (round_small ss round parts.1)
 
 abbrev AreSmall : Agreement → Type 0
 AreSmall a = AllByRecursion IsSmall a.covered
 
 small_round : (a : Agreement) → IsSound a → AreSmall a → AreSmall (with_round a)
-small_round a is h = all_append a.covered (round_of a.current.spots a.rounds) h (round_small a.current.spots a.rounds is.window.table.within)
+small_round a is h = all_append IsSmall a.covered (round_of a.current.spots a.rounds) h (round_small a.current.spots a.rounds is.window.table.within)
 
 small_open : (a : Agreement) (g : Option Window) → AreSmall a → AreSmall (open_granted a g)
 small_open a None h = h

@@ -5,7 +5,7 @@ use Rattle.record_codec.specs.Records.{IsValidRecord}
 use Rattle.app_law.specs.Folds.{fold_of}
 use Rattle.app_law.proofs.Folds.{fold_of-append}
 use Rattle.node_rules.specs.Names.{Record}
-use Rattle.node_rules.proofs.SoundTurns.{all_append}
+use Rattle.node_rules.proofs.Lists.{all_append}
 use Rattle.consumer_node.specs.Apps.{Meaning}
 
 -- a state comes after valid records from another one

@@ -1,51 +1,27 @@
--- What an event does by itself keeps what holds of a consumer, and the step's end follows it.
-use Rattle.std.proofs.Common.{◌≡◌, ◌<◌, List, [], ◌∷◌, ◌++◌, length, length-append, Some, refl, sym, ap, subst, ◌∙◌, arith}
+-- What an event by itself stores is valid whatever the application writes; and what holds of a consumer as one record more is applied or confirmed.
+use Rattle.std.proofs.Common.{◌≡◌, ◌<◌, List, [], ◌∷◌, ◌++◌, length, length-append, Some, refl, sym, subst, arith}
 use Rattle.std.specs.List.{AllByRecursion}
 use Rattle.fix_ante.specs.declared.spots.Owner.{Owner}
 use Rattle.record_codec.specs.Records.{IsValidRecord}
 use Rattle.cut_core.specs.Map.{located}
-use Rattle.msg_wire.specs.Heeded.{is_heeded}
 use Rattle.msg_wire.specs.Valid.{IsValidEvent, AreValidItems}
 use Rattle.node_rules.specs.Names.{Event, Record}
-use Rattle.node_rules.specs.Names.events
 use Rattle.node_rules.specs.Nodes.{Node, agreed_by, with_own}
-use Rattle.node_rules.specs.Turns.{Turn, started}
-use Rattle.node_rules.proofs.SoundTurns.{on_test}
+use Rattle.node_rules.specs.Turns.{started}
 use Rattle.consumer_node.specs.Apps.{Meaning}
 use Rattle.consumer_node.specs.States.{ConsumerState, applied_of, with_pending}
-use Rattle.consumer_node.specs.Speculation.{with_confirmed, finish}
-use Rattle.consumer_node.specs.Steps.{hear, consumer_step}
-use Rattle.consumer_node.specs.Handling.{handle}
+use Rattle.consumer_node.specs.Speculation.{with_confirmed}
+use Rattle.consumer_node.specs.Steps.{handle}
 use Rattle.consumer_node.specs.Sound.{held_for, IsConsumer}
 use Rattle.consumer_node.proofs.Owners.{agreement_by}
 use Rattle.consumer_node.proofs.Applied.{IsConsumer-few, IsConsumer-valid}
 use Rattle.consumer_node.proofs.Owned.{own_apply, own_confirm}
-use Rattle.consumer_node.proofs.Turns.{IsKept}
-use Rattle.consumer_node.proofs.Tables.{kept_hear, kept_on_tick}
-use Rattle.consumer_node.proofs.Lives.{kept_started}
-
-pub kept_handle : {A : Type 0} (app : Meaning A) (n : Node (ConsumerState A)) (event : Event) → IsConsumer n → IsValidEvent event → IsKept app n (handle event (started n))
-kept_handle app n (events.Deliver message) is valid =
-    on_test (IsKept app n) (is_heeded n.base.cfg n.base.me message) (hear message.from message.what (started n)) (started n)
-    (λ _. kept_hear app n message.from message.what (started n) valid.from valid.what (kept_started app n is))
-    (λ _. kept_started app n is)
-kept_handle app n events.Tick is valid = kept_on_tick app n (started n) (kept_started app n is)
-kept_handle app n events.Restart is valid = kept_started app n is
-kept_handle app n (events.Submit by body) is valid = kept_started app n is
-kept_handle app n (events.Command command) is valid = kept_started app n is
+pub use Rattle.consumer_node.proofs.Turns.{kept_handle}
 
 -- what it stores is valid whatever the application writes, since none of it is output
 pub stable_handle : {A : Type 0} (app : Meaning A) (n : Node (ConsumerState A)) (event : Event) → IsConsumer n → IsValidEvent event → AreValidItems (handle event (started n)).stable
 stable_handle app n event is valid =
     (kept_handle (record { fresh = app.fresh; next = app.next; output = λ state rec. [] }) n event is valid).given.stable (λ state rec reached short. omega arith)
-
--- the step of an event that is no restart
-pub step_else : {A : Type 0} (app : Meaning A) (n : Node (ConsumerState A)) (event : Event) → (event ≡ events.Restart → ⊥) → finish app (handle event (started n)) ≡ consumer_step app n event
-step_else app n events.Restart other = absurd (other refl)
-step_else app n (events.Deliver message) other = refl
-step_else app n events.Tick other = refl
-step_else app n (events.Submit by body) other = refl
-step_else app n (events.Command command) other = refl
 
 -- ---- one record more
 

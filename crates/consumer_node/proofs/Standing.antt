@@ -1,8 +1,7 @@
 -- Items that stand at one position after another.
-use Rattle.std.proofs.Common.{◌≡◌, ◌⊎◌, inl, inr, ℕ, zero, suc, ◌+◌, ◌-◌, ◌<◌, ◌≤◌, nat_lt, nat_le, Bool, true, false, List, [], ◌∷◌, ◌++◌, length, take, refl, ap, ◌∙◌, arith}
-use Rattle.std.specs.List.{AllByRecursion}
+use Rattle.std.proofs.Common.{◌≡◌, ◌⊎◌, inl, inr, ℕ, zero, suc, ◌+◌, ◌-◌, ◌<◌, ◌≤◌, nat_lt, nat_le, true, false, List, [], ◌∷◌, ◌++◌, length, take, refl, ap, ◌∙◌, arith}
 use Rattle.std.proofs.lemmas.Bool.Decides.{nat_tests}
-use Rattle.app_law.specs.Positions.{below, from_on, IsRising, IsPast}
+use Rattle.app_law.specs.Positions.{below, from_on, IsPast}
 use Rattle.app_law.proofs.PositionLemmas.{below-first, from_on-first}
 use Rattle.consumer_node.specs.Kept.{StandFrom}
 

@@ -7,7 +7,6 @@ pub mod Sound
 pub mod Rules
 pub mod Closing
 pub mod Steps
-pub mod Handling
 pub mod Restart
 pub mod Laws
 pub mod Rows

@@ -19,14 +19,19 @@ hear from (whats.Decided slot count entry) t = decided on_learned from slot coun
 hear from (whats.Deliver local rec) t = hear_deliver (number_of from) local rec t
 hear from _ t = t
 
+-- what an event does by itself; a restart is no such event
+abbrev pub handle : {A : Type 0} → Event → Turn (ConsumerState A) → Turn (ConsumerState A)
+handle (events.Deliver message) t = heed hear message t
+handle events.Tick t = on_tick t
+handle events.Restart t = t
+handle (events.Submit by body) t = t
+handle (events.Command command) t = t
+
 -- Restart: what was applied beyond the confirmed records is undone
 abbrev pub restart : {A : Type 0} → Node (ConsumerState A) → Turn (ConsumerState A)
 restart n = show (marks.Undo n.own.confirmed) (started (reset_of n))
 
 -- the step of each event; each but a restart ends with applying and confirming
 abbrev pub consumer_step : {A : Type 0} → Meaning A → Node (ConsumerState A) → Event → Turn (ConsumerState A)
-consumer_step app n (events.Deliver message) = finish app (heed hear message (started n))
-consumer_step app n events.Tick = finish app (on_tick (started n))
 consumer_step app n events.Restart = restart n
-consumer_step app n (events.Submit by body) = finish app (started n)
-consumer_step app n (events.Command command) = finish app (started n)
+consumer_step app n event = finish app (handle event (started n))

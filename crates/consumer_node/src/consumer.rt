@@ -1,10 +1,11 @@
 ghost use Rattle.std.specs.Prelude.{◌≡◌, ◌≤◌, ◌^◌, true, false, is_some, IfOk, OnOk, OnErr, IsTrue};
 ghost use Rattle.msg_wire.specs.Nodes.{is_consumer};
-ghost use Rattle.msg_wire.specs.Valid.{IsValidConfig, IsNodeOf, IsValidEvent, AreValidItems};
+ghost use Rattle.msg_wire.specs.Valid.{IsValidConfig, IsNodeOf, IsValidMessage, IsValidEvent, AreValidItems};
 ghost use Rattle.msg_wire.specs.Steps.{IsValidStep};
 ghost use Rattle.spec_delivery.specs.Buffers.{record_at};
 ghost use Rattle.node_rules.specs.Bases.{first_window};
-ghost use Rattle.node_rules.specs.Turns.{turn_of};
+ghost use Rattle.node_rules.specs.Names.events;
+ghost use Rattle.node_rules.specs.Turns.{turn_of, empty_step};
 ghost use Rattle.consumer_node.specs.Apps.{meaning};
 ghost use Rattle.consumer_node.specs.States.{applied_of, app_state};
 ghost use Rattle.consumer_node.specs.Steps.{consumer_step};
@@ -12,11 +13,11 @@ ghost use Rattle.consumer_node.specs.Restart.{fresh_node, restart_of};
 
 use crate::own::ConsumerOwn;
 use crate::restart::{fresh_node, restart_of};
-use crate::steps::react;
+use crate::steps::{deliver, react};
 use app_law::App;
 use lease_window::Known;
-use msg_wire::{Config, Event, Items, Step};
-use node_rules::Node;
+use msg_wire::{Config, Event, Items, Message, Step};
+use node_rules::{Node, empty_step};
 use quota_table::OutOfMemory;
 use record_codec::Shown;
 use spec_base::NodeId;
@@ -92,10 +93,52 @@ impl<A: App> ConsumerNode<A> {
         ensures ready { OnOk result (self.new.spent ≡ false) }
         ensures spent { OnErr result (self.new.spent ≡ true) }
     {
-        self.spent = true;
-        let out = react(&mut self.node, alloc, event)?;
-        self.spent = false;
+        let mut out = empty_step(alloc);
+        self.step_into(alloc, event, &mut out)?;
         Ok(out)
+    }
+
+    /// The step of an event, written into a step that gives nothing yet. After want of memory the consumer is spent, and
+    /// what `out` gives is no step.
+    pub fn step_into(
+        &mut self,
+        alloc: Global,
+        event: &Event,
+        out: &mut Step,
+    ) -> Result<(), OutOfMemory>
+        requires ready { self.old.spent ≡ false }
+        requires valid { IsValidEvent event.now }
+        requires empty { out.old ≡ empty_step }
+        ensures turn { OnOk result (turn_of self.new.node out.new ≡ consumer_step (meaning A.fresh_state A.next_state A.output_of) self.old.node event.now) }
+        ensures valid { OnOk result (IsValidStep out.new) }
+        ensures ready { OnOk result (self.new.spent ≡ false) }
+        ensures spent { OnErr result (self.new.spent ≡ true) }
+    {
+        self.spent = true;
+        react(&mut self.node, alloc, event, out)?;
+        self.spent = false;
+        Ok(())
+    }
+
+    /// The step of a message that comes, as `step_into` makes it of the event; the message is not copied.
+    pub fn deliver_into(
+        &mut self,
+        alloc: Global,
+        message: &Message,
+        out: &mut Step,
+    ) -> Result<(), OutOfMemory>
+        requires ready { self.old.spent ≡ false }
+        requires valid { IsValidMessage message.now }
+        requires empty { out.old ≡ empty_step }
+        ensures turn { OnOk result (turn_of self.new.node out.new ≡ consumer_step (meaning A.fresh_state A.next_state A.output_of) self.old.node (events.Deliver message.now)) }
+        ensures valid { OnOk result (IsValidStep out.new) }
+        ensures ready { OnOk result (self.new.spent ≡ false) }
+        ensures spent { OnErr result (self.new.spent ≡ true) }
+    {
+        self.spent = true;
+        deliver(&mut self.node, alloc, message, out)?;
+        self.spent = false;
+        Ok(())
     }
 
     /// The agreed entries that the consumer knows.

@@ -1,16 +1,15 @@
 //! A consumer's step: each event with its rules, and what is applied and confirmed as the step ends.
 
-ghost use Rattle.std.specs.Prelude.{◌≡◌, ◌<◌, ◌≤◌, IfOk, OnOk};
+ghost use Rattle.std.specs.Prelude.{◌≡◌, ◌<◌, ◌≤◌, OnOk};
 ghost use Rattle.record_codec.specs.Entries.{IsValidEntry};
-ghost use Rattle.msg_wire.specs.Valid.{IsSlot, IsValidMessage, IsValidEvent, IsValidWhat};
-ghost use Rattle.msg_wire.specs.Steps.{IsValidStep};
+ghost use Rattle.msg_wire.specs.Valid.{IsSlot, IsValidMessage, IsValidEvent, IsValidWhat, AreValidItems};
 ghost use Rattle.msg_wire.specs.Nodes.{number_of};
+ghost use Rattle.node_rules.specs.Names.events;
 ghost use Rattle.node_rules.specs.Turns.{turn_of, empty_step};
 ghost use Rattle.node_rules.specs.Rules.{heed, learn_next, decided};
 ghost use Rattle.consumer_node.specs.Apps.{meaning};
 ghost use Rattle.consumer_node.specs.Rules.{on_learned as on_learned_of};
 ghost use Rattle.consumer_node.specs.Steps.{hear, restart, consumer_step};
-ghost use Rattle.consumer_node.specs.Handling.{handle};
 ghost use Rattle.consumer_node.specs.Sound.{IsConsumer};
 
 use crate::own::ConsumerOwn;
@@ -19,33 +18,64 @@ use crate::rules::{on_learned, on_tick};
 use crate::speculation::finish;
 use app_law::App;
 use msg_wire::{Event, Mark, Message, Step, What};
-use node_rules::{Node, empty_step, number_of};
+use node_rules::{Node, number_of};
 use quota_table::{Entry, OutOfMemory};
 use record_codec::Record;
 use spec_base::NodeId;
 use std::alloc::Global;
 
-/// The step of an event. A restart undoes what is not confirmed; any other event's step ends with applying and
-/// confirming.
+/// The step of an event, written into a step that gives nothing yet. A restart undoes what is not confirmed; any other
+/// event's step ends with applying and confirming.
 pub(crate) fn react<A: App>(
     consumer: &mut Node<ConsumerOwn<A>>,
     alloc: Global,
     event: &Event,
-) -> Result<Step, OutOfMemory>
+    out: &mut Step,
+) -> Result<(), OutOfMemory>
     requires sound { IsConsumer consumer.old }
     requires valid { IsValidEvent event.now }
-    ensures turn { IfOk result (λ out. turn_of consumer.new out ≡ consumer_step (meaning A.fresh_state A.next_state A.output_of) consumer.old event.now) }
-    ensures valid { IfOk result (λ out. IsValidStep out) }
-    ensures sound { OnOk result (IsConsumer consumer.new) }
+    requires empty { out.old ≡ empty_step }
+    ensures turn { OnOk result (turn_of consumer.new out.new ≡ consumer_step (meaning A.fresh_state A.next_state A.output_of) consumer.old event.now) }
+    ensures stable { OnOk result (AreValidItems out.new.stable) }
 {
-    let mut out = empty_step(alloc);
-    if let Event::Restart = event {
-        restart(consumer, &mut out)?;
-        return Ok(out);
+    match event {
+        Event::Deliver(message) => deliver(consumer, alloc, message, out),
+        Event::Tick => tick(consumer, alloc, out),
+        Event::Restart => restart(consumer, out),
+        Event::Submit { .. } | Event::Command(_) => finish(consumer, alloc, out),
     }
-    handle(consumer, event, &mut out)?;
-    finish(consumer, alloc, &mut out)?;
-    Ok(out)
+}
+
+/// The step of a message that comes.
+pub(crate) fn deliver<A: App>(
+    consumer: &mut Node<ConsumerOwn<A>>,
+    alloc: Global,
+    message: &Message,
+    out: &mut Step,
+) -> Result<(), OutOfMemory>
+    requires sound { IsConsumer consumer.old }
+    requires valid { IsValidMessage message.now }
+    requires empty { out.old ≡ empty_step }
+    ensures turn { OnOk result (turn_of consumer.new out.new ≡ consumer_step (meaning A.fresh_state A.next_state A.output_of) consumer.old (events.Deliver message.now)) }
+    ensures stable { OnOk result (AreValidItems out.new.stable) }
+{
+    heed(consumer, message, out)?;
+    finish(consumer, alloc, out)
+}
+
+/// The step of a tick.
+fn tick<A: App>(
+    consumer: &mut Node<ConsumerOwn<A>>,
+    alloc: Global,
+    out: &mut Step,
+) -> Result<(), OutOfMemory>
+    requires sound { IsConsumer consumer.old }
+    requires empty { out.old ≡ empty_step }
+    ensures turn { OnOk result (turn_of consumer.new out.new ≡ consumer_step (meaning A.fresh_state A.next_state A.output_of) consumer.old events.Tick) }
+    ensures stable { OnOk result (AreValidItems out.new.stable) }
+{
+    on_tick(consumer, out)?;
+    finish(consumer, alloc, out)
 }
 
 /// A restart in place: what was applied beyond the confirmed records is undone.
@@ -56,22 +86,6 @@ fn restart<A: App>(consumer: &mut Node<ConsumerOwn<A>>, out: &mut Step) -> Resul
     let first = consumer.own.confirmed();
     reset(consumer);
     consumer.show(Mark::Undo { first }, out)
-}
-
-/// What an event does by itself; a restart is no such event.
-fn handle<A: App>(
-    consumer: &mut Node<ConsumerOwn<A>>,
-    event: &Event,
-    out: &mut Step,
-) -> Result<(), OutOfMemory>
-    requires { IsValidEvent event.now }
-    ensures { OnOk result (turn_of consumer.new out.new ≡ handle event.now (turn_of consumer.old out.old)) }
-{
-    match event {
-        Event::Deliver(message) => heed(consumer, message, out),
-        Event::Tick => on_tick(consumer, out),
-        Event::Restart | Event::Submit { .. } | Event::Command(_) => Ok(()),
-    }
 }
 
 /// A message that comes. One that is not heeded does nothing by itself.
