@@ -10,9 +10,9 @@ use Rattle.consumer_node.specs.Apps.{any_meaning}
 use Rattle.consumer_node.specs.Steps.{consumer_step}
 use Rattle.world.specs.declared.any_node.AnyNode.{AnyNode}
 use Rattle.world.specs.declared.any_node.AnyNode.TheVariants as any
-use Rattle.world.specs.Names.{NodeId, Config, Item, Event, Step}
-use Rattle.world.specs.Names.nodes
-use Rattle.world.specs.Kinds.{sequencer_table, replica_table, client_table, consumer_table, sequencer_after, replica_after, client_after, consumer_after}
+use Rattle.runs.specs.Names.{NodeId, Config, Item, Event, Step}
+use Rattle.runs.specs.Names.nodes
+use Rattle.runs.specs.Kinds.{sequencer_table, replica_table, client_table, consumer_table, sequencer_after, replica_after, client_after, consumer_after}
 
 -- a node that is not spent
 abbrev pub ready : {S : Type 0} → Node S → Core S

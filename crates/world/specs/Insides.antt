@@ -2,12 +2,13 @@
 use Rattle.std.specs.Prelude.{◌≡◌, ◌<◌, length}
 use Rattle.net_model.specs.Pasts.{past_of}
 use Rattle.msg_wire.specs.Nodes.{nodes_of}
+use Rattle.node_rules.specs.Turns.{empty_step}
 use Rattle.world.specs.declared.player.Parts.{Parts}
 use Rattle.world.specs.declared.player.Player.TheInside.{Inside}
 use Rattle.world.specs.Players.{PlayerState, IsPlayed}
 
 abbrev pub shown_by : Parts → PlayerState
-shown_by p = record { cfg = p.cfg; past = past_of p.history; settled = p.outbox.settled; turn = p.turn }
+shown_by p = record { cfg = p.cfg; past = past_of p.history; settled = p.outbox; turn = p.turn }
 
 abbrev pub player_of : Inside → PlayerState
 player_of i = shown_by i.parts.value
@@ -15,7 +16,8 @@ player_of i = shown_by i.parts.value
 pub record AreParts (p : Parts) : Type 0 where
   pub order : p.order.items ≡ nodes_of p.cfg
   pub turn : p.turn < length (nodes_of p.cfg)
-  pub played : IsPlayed p.cfg (past_of p.history) p.nodes.items p.outbox.places p.outbox.settled
+  pub played : IsPlayed p.cfg (past_of p.history) p.nodes.items p.outbox
+  pub between : p.step ≡ empty_step
 
 abbrev pub IsPlayer : Inside → Type 0
 IsPlayer i = AreParts i.parts.value

@@ -1,12 +1,6 @@
--- The messages of a history by number, as they are kept.
+-- The messages of a history by number: of each whether it was delivered or is to be passed over.
 use Rattle.std.specs.Prelude.{◌≡◌, ℕ, ◌<◌, Bool, true, List, Some}
 use Rattle.std.specs.List.{slice_get}
-use Rattle.world.specs.declared.outbox.Place.{Place}
-
--- where each stands; and of each whether it was delivered or is to be passed over
-pub record OutboxState : Type 0 where
-  pub places : List Place
-  pub settled : List Bool
 
 -- all below a number are settled
 abbrev pub AreSettledBelow : ℕ → List Bool → Type 0

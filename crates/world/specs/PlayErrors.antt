@@ -2,7 +2,7 @@
 use Rattle.std.specs.Prelude.{◌≡◌, List, Some}
 use Rattle.world.specs.declared.errors.PlayError.{PlayError}
 use Rattle.world.specs.declared.errors.PlayError.TheVariants as faults
-use Rattle.world.specs.Names.{Config, Input}
+use Rattle.runs.specs.Names.{Config, Input}
 use Rattle.world.specs.Playing.{play_fault}
 
 -- an error is of the first input that is refused; want of memory may come at any time

@@ -7,14 +7,12 @@ use Rattle.msg_wire.specs.Nodes.{nodes_of}
 use Rattle.msg_wire.specs.Valid.{IsValidConfig, IsNodeOf, IsValidEvent, IsCommandOf}
 use Rattle.msg_wire.specs.Steps.{IsEventAt, AreValidMessages}
 use Rattle.world.specs.declared.any_node.AnyNode.{AnyNode}
-use Rattle.world.specs.declared.outbox.Place.{Place}
-use Rattle.world.specs.Names.{NodeId, Config, Message, Event, Input, HistoryEntry}
-use Rattle.world.specs.Names.nodes
-use Rattle.world.specs.Names.events
-use Rattle.world.specs.Names.inputs
+use Rattle.runs.specs.Names.{NodeId, Config, Message, Event, Input, HistoryEntry}
+use Rattle.runs.specs.Names.nodes
+use Rattle.runs.specs.Names.events
+use Rattle.runs.specs.Names.inputs
 use Rattle.world.specs.AnyNodes.{node_after}
-use Rattle.world.specs.Places.{places_of}
-use Rattle.world.specs.Runs.{Comes, IsPastOf}
+use Rattle.runs.specs.Runs.{Comes, IsPastOf}
 use Rattle.world.specs.Playing.{Playing, entry_made}
 
 -- the cluster; the entries so far, the newest first; of each message whether it was delivered or is to be passed over; and
@@ -88,14 +86,13 @@ IsCommandAt c events.Restart = Unit {0}
 abbrev pub AreCommandsOf : Config → Past → Type 0
 AreCommandsOf c = AllByRecursion (λ (e : HistoryEntry). IsCommandAt c e.event)
 
--- the past is a run's; each node is as the past leaves it; each message is valid, and its place and its flag are kept
-pub record IsPlayed (c : Config) (past : Past) (made : List AnyNode) (places : List Place) (settled : List Bool) : Type 0 where
+-- the past is a run's; each node is as the past leaves it; each message is valid, and its flag is kept
+pub record IsPlayed (c : Config) (past : Past) (made : List AnyNode) (settled : List Bool) : Type 0 where
   pub cfg : IsValidConfig c
   pub run : IsPastOf c past
   pub commands : AreCommandsOf c past
   pub messages : AreValidMessages (sent past)
   pub nodes_are : made ≡ map (node_after c past) (nodes_of c)
-  pub places_are : places ≡ places_of past
   pub flags : length settled ≡ length (sent past)
 
 -- the message that an input names was sent

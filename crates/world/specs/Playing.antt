@@ -6,11 +6,11 @@ use Rattle.net_model.specs.Pasts.{Past, sent}
 use Rattle.msg_wire.specs.Nodes.{nodes_of}
 use Rattle.world.specs.declared.errors.PlayError.{PlayError}
 use Rattle.world.specs.declared.errors.PlayError.TheVariants.{NoMessage, TooLong}
-use Rattle.world.specs.Names.{NodeId, Config, Message, Event, Input, HistoryEntry}
-use Rattle.world.specs.Names.nodes
-use Rattle.world.specs.Names.events
-use Rattle.world.specs.Names.inputs
-use Rattle.world.specs.Kinds.{step_at}
+use Rattle.runs.specs.Names.{NodeId, Config, Message, Event, Input, HistoryEntry}
+use Rattle.runs.specs.Names.nodes
+use Rattle.runs.specs.Names.events
+use Rattle.runs.specs.Names.inputs
+use Rattle.runs.specs.Kinds.{step_at}
 
 -- a script as it is played: the entries so far, the newest first; the numbers of the messages that were delivered or are
 -- to be passed over; and the place of the node that a drain ticks next

@@ -1,14 +1,8 @@
-//! What is shown of the definitions of runs and laws so far. Nothing is shown of all runs yet.
-ghost use Rattle.world.specs.FirstSteps.{FirstSteps};
-ghost use Rattle.world.specs.Broken.{Refused};
+//! What is shown of the definition of the history that inputs make, on small scripts.
+ghost use Rattle.world.specs.FirstScripts.{FirstScripts};
 
-/// The first steps of a script, worked out by hand, are a run and are what its inputs make; so are those of a small drain.
-/// Inputs that are refused are named.
-pub fn first_steps_are_a_run()
-    ensures { FirstSteps }
-{}
-
-/// For each law short histories, each of which breaks one of its sentences, are refused; and so are some that are no runs.
-pub fn broken_histories_are_refused()
-    ensures { Refused }
+/// The first steps of a script, worked out by hand, are what its inputs make; so are those of a small drain. Inputs that
+/// are refused are named.
+pub fn first_scripts_are_played()
+    ensures { FirstScripts }
 {}

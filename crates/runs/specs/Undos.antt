@@ -3,13 +3,13 @@ use Rattle.std.specs.Prelude.{◌≡◌, ℕ, ◌<◌, ◌≤◌, List, [], ◌�
 use Rattle.net_model.specs.Pasts.{Past, Throughout, AfterEach, marks_of}
 use Rattle.consumer_node.specs.Apps.{any_meaning}
 use Rattle.consumer_node.specs.States.{app_state}
-use Rattle.world.specs.Names.{NodeId, Config, Event, Mark, HistoryEntry}
-use Rattle.world.specs.Names.nodes
-use Rattle.world.specs.Names.events
-use Rattle.world.specs.Names.marks
-use Rattle.world.specs.Kinds.{consumer_after}
-use Rattle.world.specs.Marks.{confirmations, applied_by, applied_log}
-use Rattle.world.specs.Outputs.{app_after}
+use Rattle.runs.specs.Names.{NodeId, Config, Event, Mark, HistoryEntry}
+use Rattle.runs.specs.Names.nodes
+use Rattle.runs.specs.Names.events
+use Rattle.runs.specs.Names.marks
+use Rattle.runs.specs.Kinds.{consumer_after}
+use Rattle.runs.specs.Marks.{confirmations, applied_by, applied_log}
+use Rattle.runs.specs.Outputs.{app_after}
 
 -- the application's state is that after the applied list
 abbrev pub StateIsOfApplied : Config → ℕ → Past → Type 0

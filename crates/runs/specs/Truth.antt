@@ -3,11 +3,11 @@ use Rattle.std.specs.Prelude.{◌≡◌, ℕ, List, map, slice_get, Some}
 use Rattle.std.specs.List.{AllByRecursion}
 use Rattle.std.specs.Ordering.{nat_cmp}
 use Rattle.net_model.specs.Pasts.{Past, Throughout, marks_of, submissions_of}
-use Rattle.world.specs.Names.{NodeId, Mark, HistoryEntry}
-use Rattle.world.specs.Names.nodes
-use Rattle.world.specs.Names.records
-use Rattle.world.specs.Names.marks
-use Rattle.world.specs.Marks.{IsCounted, IsConfirmed, confirmed_list, numbers_of_client, acks}
+use Rattle.runs.specs.Names.{NodeId, Mark, HistoryEntry}
+use Rattle.runs.specs.Names.nodes
+use Rattle.runs.specs.Names.records
+use Rattle.runs.specs.Names.marks
+use Rattle.runs.specs.Marks.{IsCounted, IsConfirmed, confirmed_list, numbers_of_client, acks}
 
 -- the numbers that a client was acknowledged
 abbrev pub acked_numbers : ℕ → Past → List ℕ

@@ -2,11 +2,11 @@
 use Rattle.std.specs.Prelude.{◌≡◌, ◌⊎◌, ℕ, ◌==◌, if◌then◌else◌, List, [], ◌∷◌, ◌++◌, map, length, replicate, filter_map, flat_map, fold, take, Contains, Option, Some, None}
 use Rattle.std.specs.List.{range_with_len}
 use Rattle.net_model.specs.Pasts.{Past, shown, marks_of}
-use Rattle.world.specs.Names.{Entry, Record, Item, Mark}
-use Rattle.world.specs.Names.nodes
-use Rattle.world.specs.Names.records
-use Rattle.world.specs.Names.items
-use Rattle.world.specs.Names.marks
+use Rattle.runs.specs.Names.{Entry, Record, Item, Mark}
+use Rattle.runs.specs.Names.nodes
+use Rattle.runs.specs.Names.records
+use Rattle.runs.specs.Names.items
+use Rattle.runs.specs.Names.marks
 
 -- ---- relations on lists
 

@@ -1,10 +1,10 @@
 -- What a consumer shows of itself after its first marks.
 use Rattle.std.specs.Prelude.{ℕ, List, length, take}
 use Rattle.net_model.specs.Pasts.{Past, marks_of}
-use Rattle.world.specs.Names.{Config, Mark}
-use Rattle.world.specs.Names.nodes
-use Rattle.world.specs.Marks.{confirmations, notices, applied_by}
-use Rattle.world.specs.Outputs.{shown_after}
+use Rattle.runs.specs.Names.{Config, Mark}
+use Rattle.runs.specs.Names.nodes
+use Rattle.runs.specs.Marks.{confirmations, notices, applied_by}
+use Rattle.runs.specs.Outputs.{shown_after}
 
 -- noticed removals, applied and confirmed records, and the application's state as text
 pub record View : Type 0 where

@@ -3,20 +3,20 @@ use Rattle.std.specs.Prelude.{List, ℕ, [], ◌∷◌}
 use Rattle.net_model.specs.Pasts.{Past}
 use Rattle.node_rules.specs.Examples.{single, pair, trio, q0, q1, s0p, s0b, c0, k0, five, seven, comes}
 use Rattle.node_rules.specs.Examples as examples
-use Rattle.world.specs.Names.{NodeId, Config, Event, Mark, HistoryEntry}
-use Rattle.world.specs.Names.entries
-use Rattle.world.specs.Names.events
-use Rattle.world.specs.Names.commands
-use Rattle.world.specs.Names.marks
-use Rattle.world.specs.Names.whats
-use Rattle.world.specs.Runs.{IsPastOf}
-use Rattle.world.specs.OneLog.{IsOneLog}
-use Rattle.world.specs.Truth.{IsTruthful}
-use Rattle.world.specs.Speculating.{SpeculationHolds}
-use Rattle.world.specs.Outputs.{OutputsFollowConfirmed}
-use Rattle.world.specs.Undos.{StateFollowsApplied}
-use Rattle.world.specs.Cuts.{CutsAreTrue}
-use Rattle.world.specs.Eagerness.{IsEager}
+use Rattle.runs.specs.Names.{NodeId, Config, Event, Mark, HistoryEntry}
+use Rattle.runs.specs.Names.entries
+use Rattle.runs.specs.Names.events
+use Rattle.runs.specs.Names.commands
+use Rattle.runs.specs.Names.marks
+use Rattle.runs.specs.Names.whats
+use Rattle.runs.specs.Runs.{IsPastOf}
+use Rattle.runs.specs.OneLog.{IsOneLog}
+use Rattle.runs.specs.Truth.{IsTruthful}
+use Rattle.runs.specs.Speculating.{SpeculationHolds}
+use Rattle.runs.specs.Outputs.{OutputsFollowConfirmed}
+use Rattle.runs.specs.Undos.{StateFollowsApplied}
+use Rattle.runs.specs.Cuts.{CutsAreTrue}
+use Rattle.runs.specs.Eagerness.{IsEager}
 
 -- a tick at which a node shows this
 abbrev shows : NodeId → List Mark → HistoryEntry

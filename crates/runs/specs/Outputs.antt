@@ -5,11 +5,11 @@ use Rattle.app_law.specs.declared.any_app.AnyApp.{AnyApp}
 use Rattle.app_law.specs.AnyApps.{any_fresh, any_next, any_output, any_shown}
 use Rattle.app_law.specs.Folds as folds
 use Rattle.net_model.specs.Pasts.{Past, AfterEach, marks_of}
-use Rattle.world.specs.Names.{Config, Record, Mark}
-use Rattle.world.specs.Names.nodes
-use Rattle.world.specs.Names.marks
-use Rattle.world.specs.Kinds.{items_at}
-use Rattle.world.specs.Marks.{IsPrefix, EachAfter, confirmed_list, applied_by, applied_log, outputs, kept_confirmations}
+use Rattle.runs.specs.Names.{Config, Record, Mark}
+use Rattle.runs.specs.Names.nodes
+use Rattle.runs.specs.Names.marks
+use Rattle.runs.specs.Kinds.{items_at}
+use Rattle.runs.specs.Marks.{IsPrefix, EachAfter, confirmed_list, applied_by, applied_log, outputs, kept_confirmations}
 
 -- ---- the cluster's application
 

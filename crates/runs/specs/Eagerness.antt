@@ -4,15 +4,15 @@ use Rattle.fix_ante.specs.declared.spots.Owner.{Owner}
 use Rattle.cut_core.specs.Agreements.{count_of}
 use Rattle.cut_core.specs.Map.{mapped, leased, covered_locals}
 use Rattle.net_model.specs.Pasts.{Past, Throughout, AfterEach, SinceRestart, is_restart_of, at_restart_of}
-use Rattle.world.specs.Names.{NodeId, Side, Config, Record, HistoryEntry}
-use Rattle.world.specs.Names.nodes
-use Rattle.world.specs.Names.sides
-use Rattle.world.specs.Names.whats
-use Rattle.world.specs.Names.events
-use Rattle.world.specs.Names.marks
-use Rattle.world.specs.Kinds.{replica_after}
-use Rattle.world.specs.Known.{agreed_at}
-use Rattle.world.specs.Marks.{confirmed_positions, confirmed_list, applied_log}
+use Rattle.runs.specs.Names.{NodeId, Side, Config, Record, HistoryEntry}
+use Rattle.runs.specs.Names.nodes
+use Rattle.runs.specs.Names.sides
+use Rattle.runs.specs.Names.whats
+use Rattle.runs.specs.Names.events
+use Rattle.runs.specs.Names.marks
+use Rattle.runs.specs.Kinds.{replica_after}
+use Rattle.runs.specs.Known.{agreed_at}
+use Rattle.runs.specs.Marks.{confirmed_positions, confirmed_list, applied_log}
 
 -- the greatest number of which it holds
 pub record IsGreatest (P : ℕ → Type 0) (n : ℕ) : Type 0 where

@@ -18,8 +18,8 @@ use Rattle.consumer_node.specs.Apps.{any_meaning}
 use Rattle.consumer_node.specs.States.{ConsumerState}
 use Rattle.consumer_node.specs.Steps.{consumer_step}
 use Rattle.consumer_node.specs.Restart as consumer
-use Rattle.world.specs.Names.{NodeId, Side, Config, Item, Event, Step}
-use Rattle.world.specs.Names.nodes
+use Rattle.runs.specs.Names.{NodeId, Side, Config, Item, Event, Step}
+use Rattle.runs.specs.Names.nodes
 
 -- ---- the table of each kind, at a node
 

@@ -4,10 +4,10 @@ use Rattle.std.specs.List.{AllByRecursion}
 use Rattle.cut_core.specs.declared.effects.Effect.TheVariants.{Removed}
 use Rattle.cut_core.specs.Effects.{effect_of}
 use Rattle.net_model.specs.Pasts.{Past, Throughout, marks_of}
-use Rattle.world.specs.Names.{NodeId, Config, Entry, Record, Mark, HistoryEntry}
-use Rattle.world.specs.Names.marks
-use Rattle.world.specs.Marks.{EachAfter, IsSpeculated}
-use Rattle.world.specs.Known.{known_at, agreed_at}
+use Rattle.runs.specs.Names.{NodeId, Config, Entry, Record, Mark, HistoryEntry}
+use Rattle.runs.specs.Names.marks
+use Rattle.runs.specs.Marks.{EachAfter, IsSpeculated}
+use Rattle.runs.specs.Known.{known_at, agreed_at}
 
 -- the marks have a notice of a removal whose first failed position is at or below this one
 abbrev pub HasNoticed : List Mark → ℕ → Type 0

@@ -3,9 +3,9 @@ use Rattle.std.specs.Prelude.{◌≡◌, List, Contains}
 use Rattle.net_model.specs.Pasts.{Past, past_of, sent, Throughout}
 use Rattle.msg_wire.specs.Valid.{IsNodeOf, IsValidEvent}
 use Rattle.msg_wire.specs.Steps.{IsEventAt}
-use Rattle.world.specs.Names.{NodeId, Config, Event, HistoryEntry}
-use Rattle.world.specs.Names.events
-use Rattle.world.specs.Kinds.{step_at}
+use Rattle.runs.specs.Names.{NodeId, Config, Event, HistoryEntry}
+use Rattle.runs.specs.Names.events
+use Rattle.runs.specs.Kinds.{step_at}
 
 -- a message that comes was sent to this node, in an earlier entry
 abbrev pub Comes : Past → NodeId → Event → Type 0

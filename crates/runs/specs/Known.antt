@@ -4,10 +4,10 @@ use Rattle.cut_core.specs.Agreements.{Agreement}
 use Rattle.cut_core.specs.Fold.{fold_of}
 use Rattle.net_model.specs.Pasts.{Past}
 use Rattle.node_rules.specs.Nodes.{first_window}
-use Rattle.world.specs.Names.{NodeId, Side, Config, Entry, Record}
-use Rattle.world.specs.Names.nodes
-use Rattle.world.specs.Kinds.{items_at}
-use Rattle.world.specs.Marks.{known_by, log_by}
+use Rattle.runs.specs.Names.{NodeId, Side, Config, Entry, Record}
+use Rattle.runs.specs.Names.nodes
+use Rattle.runs.specs.Kinds.{items_at}
+use Rattle.runs.specs.Marks.{known_by, log_by}
 
 -- what a list of entries agrees on, from the cluster's first window on
 abbrev pub agreed_after : Config → List Entry → Agreement

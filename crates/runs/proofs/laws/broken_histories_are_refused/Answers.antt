@@ -1,5 +1,5 @@
-use Rattle.world.proofs.Refusals as refusal
-use Rattle.world.proofs.laws.broken_histories_are_refused.Goals as goal
+use Rattle.runs.proofs.Refusals as refusal
+use Rattle.runs.proofs.laws.broken_histories_are_refused.Goals as goal
 
 pub returns : goal.returns
 returns c = record {

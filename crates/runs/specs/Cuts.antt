@@ -5,13 +5,13 @@ use Rattle.fix_ante.specs.declared.spots.Spot.{Spot}
 use Rattle.cut_core.specs.Reasons.{fault_of}
 use Rattle.majority.specs.Ballots.{IsMajority}
 use Rattle.net_model.specs.Pasts.{Past, Throughout}
-use Rattle.world.specs.Names.{Config, Entry, Item, HistoryEntry}
-use Rattle.world.specs.Names.nodes
-use Rattle.world.specs.Names.sides
-use Rattle.world.specs.Names.entries
-use Rattle.world.specs.Names.items
-use Rattle.world.specs.Kinds.{items_at, step_at}
-use Rattle.world.specs.Known.{agreed_after, log_at}
+use Rattle.runs.specs.Names.{Config, Entry, Item}
+use Rattle.runs.specs.Names.nodes
+use Rattle.runs.specs.Names.sides
+use Rattle.runs.specs.Names.entries
+use Rattle.runs.specs.Names.items
+use Rattle.runs.specs.Kinds.{items_at, step_at}
+use Rattle.runs.specs.Known.{agreed_after, log_at}
 
 -- ---- chosen entries
 
@@ -39,24 +39,24 @@ pub record HoldRound (cfg : Config) (past : Past) (round : ℕ) (row : Spot) : T
   pub backup : round_end row round ≤ length (log_at cfg row.shard sides.Backup past)
   pub agree : take (round_end row round) (log_at cfg row.shard sides.Primary past) ≡ take (round_end row round) (log_at cfg row.shard sides.Backup past)
 
--- a cut that an entry accepts at a slot: it fits after the entries that are chosen for the slots below, and the replicas of
--- each row hold its round, as the earlier entries leave them
-pub record IsTrueCutAfter (cfg : Config) (past : Past) (e : HistoryEntry) (slot window round : ℕ) (chosen : List Entry) : Type 0 where
+-- a cut that is accepted at a slot, after a past: it fits after the entries that are chosen there for the slots below, and
+-- the replicas of each row hold its round there
+pub record IsTrueCutAfter (cfg : Config) (past : Past) (slot window round : ℕ) (chosen : List Entry) : Type 0 where
   pub below : length chosen ≡ slot
-  pub chosen_there : AreChosen cfg (e ∷ past) chosen
+  pub chosen_there : AreChosen cfg past chosen
   pub fits : fault_of (agreed_after cfg chosen) (entries.Cut window round) ≡ None
   pub covered : AllByRecursion (HoldRound cfg past round) (agreed_after cfg chosen).current.spots
 
-abbrev pub IsTrueCut : Config → Past → HistoryEntry → ℕ → Entry → Type 0
-IsTrueCut cfg past e slot (entries.Cut window round) = (chosen : List Entry) × IsTrueCutAfter cfg past e slot window round chosen
-IsTrueCut cfg past e slot entries.Nothing = Unit {0}
-IsTrueCut cfg past e slot (entries.Table after rounds rows) = Unit {0}
-IsTrueCut cfg past e slot (entries.Remove window shard) = Unit {0}
+abbrev pub IsTrueCut : Config → Past → ℕ → Entry → Type 0
+IsTrueCut cfg past slot (entries.Cut window round) = (chosen : List Entry) × IsTrueCutAfter cfg past slot window round chosen
+IsTrueCut cfg past slot entries.Nothing = Unit {0}
+IsTrueCut cfg past slot (entries.Table after rounds rows) = Unit {0}
+IsTrueCut cfg past slot (entries.Remove window shard) = Unit {0}
 
-abbrev pub IsTrueAcceptance : Config → Past → HistoryEntry → Item → Type 0
-IsTrueAcceptance cfg past e (items.Accepted slot ballot entry) = IsTrueCut cfg past e slot entry
-IsTrueAcceptance cfg past e _ = Unit {0}
+abbrev pub IsTrueAcceptance : Config → Past → Item → Type 0
+IsTrueAcceptance cfg past (items.Accepted slot ballot entry) = IsTrueCut cfg past slot entry
+IsTrueAcceptance cfg past _ = Unit {0}
 
--- of each item that an entry stores
+-- of each item that an entry stores, judged at the past before the entry
 abbrev pub CutsAreTrue : Config → Past → Type 0
-CutsAreTrue cfg = Throughout (λ past e. AllByRecursion (IsTrueAcceptance cfg past e) (step_at cfg e.node past e.event).stable)
+CutsAreTrue cfg = Throughout (λ past e. AllByRecursion (IsTrueAcceptance cfg past) (step_at cfg e.node past e.event).stable)

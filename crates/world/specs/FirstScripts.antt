@@ -1,27 +1,15 @@
--- The first steps of a script, worked out by hand: they are a run, and are what the script makes.
+-- The first steps of a script, worked out by hand: they are what the script makes, and inputs that are refused are named.
 use Rattle.std.specs.Prelude.{◌≡◌, List, [], ◌∷◌, Some}
 use Rattle.node_rules.specs.Examples as examples
 use Rattle.world.specs.declared.errors.PlayError.TheVariants.{NoMessage, TooLong}
-use Rattle.world.specs.Names.{Input, HistoryEntry}
-use Rattle.world.specs.Names.events
-use Rattle.world.specs.Names.inputs
-use Rattle.world.specs.Names.marks
-use Rattle.world.specs.Names.whats
-use Rattle.world.specs.Runs.{IsRun}
+use Rattle.runs.specs.Names.{Input, HistoryEntry}
+use Rattle.runs.specs.Names.events
+use Rattle.runs.specs.Names.inputs
+use Rattle.runs.specs.Names.marks
+use Rattle.runs.specs.Names.whats
+use Rattle.runs.specs.FirstSteps.{steps}
 use Rattle.world.specs.Playing.{history_of, play_fault}
 use Rattle.node_rules.specs.Examples.{single, q0, s0p, s0b, c0, k0, five, comes}
-
--- client 0 is given the body 5, which goes to the primary (message 0), from it to the backup (1), and back (3): the
--- primary promises position 0. Reports go to the sequencer (2 and 4), the record to the consumer (5). Then the client is
--- given the body 6 (message 6)
-abbrev pub steps : List HistoryEntry
-steps =
-    record { node = c0; event = events.Submit 0 (53 ∷ []); sends = examples.sent c0 s0p (whats.Append 0 0 (53 ∷ [])) ∷ []; marks = [] }
-    ∷ record { node = s0p; event = comes c0 s0p (whats.Append 0 0 (53 ∷ [])); sends = examples.sent s0p s0b (whats.Replicate 0 five) ∷ examples.sent s0p q0 (whats.Report 1) ∷ []; marks = [] }
-    ∷ record { node = s0b; event = comes s0p s0b (whats.Replicate 0 five); sends = examples.sent s0b s0p (whats.Replicated 1) ∷ examples.sent s0b q0 (whats.Report 1) ∷ []; marks = [] }
-    ∷ record { node = s0p; event = comes s0b s0p (whats.Replicated 1); sends = examples.sent s0p k0 (whats.Deliver 0 five) ∷ []; marks = marks.Promise 0 five ∷ [] }
-    ∷ record { node = c0; event = events.Submit 0 (54 ∷ []); sends = examples.sent c0 s0p (whats.Append 0 1 (54 ∷ [])) ∷ []; marks = [] }
-    ∷ []
 
 abbrev pub script : List Input
 script =
@@ -45,8 +33,7 @@ drained_steps =
     ∷ record { node = s0p; event = events.Tick; sends = examples.sent s0p q0 (whats.Learn 0) ∷ examples.sent s0p q0 (whats.Report 0) ∷ []; marks = [] }
     ∷ []
 
-pub record FirstSteps : Type 0 where
-  pub are_a_run : IsRun single steps
+pub record FirstScripts : Type 0 where
   pub are_made : history_of single script ≡ steps
   pub next_is_refused : play_fault single too_early ≡ Some (NoMessage 5 7 7)
   pub drain_makes : history_of single drained ≡ drained_steps

@@ -1,0 +1,16 @@
+pub mod Names
+pub mod Kinds
+pub mod Runs
+pub mod Marks
+pub mod Known
+pub mod OneLog
+pub mod Truth
+pub mod Speculating
+pub mod Outputs
+pub mod Undos
+pub mod Safety
+pub mod Views
+pub mod Cuts
+pub mod Eagerness
+pub mod Broken
+pub mod FirstSteps
