@@ -25,42 +25,14 @@ use Rattle.consumer_node.specs.States.{ConsumerState}
 use Rattle.consumer_node.specs.Steps.{consumer_step}
 use Rattle.consumer_node.specs.Restart as consumer
 use Rattle.world.specs.declared.any_node.AnyNode.TheVariants as any
-use Rattle.world.specs.Names.{NodeId, Config, Event, HistoryEntry}
-use Rattle.world.specs.Names.nodes
-use Rattle.world.specs.Kinds.{sequencer_table, replica_table, client_table, consumer_table, step_at}
-use Rattle.world.specs.Runs.{IsPastOf}
+use Rattle.runs.specs.Names.{NodeId, Config, Event, HistoryEntry}
+use Rattle.runs.specs.Names.nodes
+use Rattle.runs.specs.Kinds.{sequencer_table, replica_table, client_table, consumer_table, step_at}
+use Rattle.runs.specs.Runs.{IsPastOf}
 use Rattle.world.specs.AnyNodes.{ready, gives_any, leaves_any, is_spent_any, node_after}
-use Rattle.world.proofs.ConsumerLaws.{consumer_restarts}
-use Rattle.world.proofs.InPlace.{with_event, events_of, RestartsInPlace, own_step, other_step}
-
--- ---- a run's events are valid
-
-valid_if : (own : Bool) (event : Event) (taken : List Event) → IsValidEvent event → AllByRecursion IsValidEvent taken → AllByRecursion IsValidEvent (with_event own event taken)
-valid_if true event taken here before = (here, before)
-valid_if false event taken here before = before
-
-pub events_valid : (cfg : Config) (node : NodeId) (past : Past) → IsPastOf cfg past → AllByRecursion IsValidEvent (events_of node past)
-events_valid cfg node [] run = tt
-events_valid cfg node (e ∷ past) run = valid_if (same_node e.node node) e.event (events_of node past) run.0.valid (events_valid cfg node past run.1)
-
--- ---- each kind restarts in place
-
-unless_never : {A : Type 0} → (b : Bool) (x y : A) → (if b && false then x else y) ≡ y
-unless_never true x y = refl
-unless_never false x y = refl
-
-pub sequencer_in_place : (cfg : Config) (node : NodeId) → IsValidConfig cfg → IsNodeOf cfg node → RestartsInPlace sequencer_step (sequencer.fresh_node cfg node) (sequencer.restart_of cfg node)
-sequencer_in_place cfg node valid here taken each =
-    ap (λ (t : Turn SequencerState). t.state) (unless_never _ _ _) ∙ sequencer_restarts cfg node taken valid here each
-
-pub replica_in_place : (cfg : Config) (node : NodeId) → IsValidConfig cfg → IsNodeOf cfg node → RestartsInPlace replica_step (replica.fresh_node cfg node) (replica.restart_of cfg node)
-replica_in_place cfg node valid here taken each = replica_restarts cfg node taken valid here each
-
-pub client_in_place : (cfg : Config) (node : NodeId) → RestartsInPlace client_step (client.fresh_node cfg node) (client.restart_of cfg node)
-client_in_place cfg node taken each = restart-items cfg node taken each
-
-pub consumer_in_place : (cfg : Config) (node : NodeId) → IsValidConfig cfg → IsNodeOf cfg node → RestartsInPlace (consumer_step any_meaning) (consumer.fresh_node any_meaning cfg node) (consumer.restart_of any_meaning cfg node)
-consumer_in_place cfg node valid here taken each = consumer_restarts cfg node taken valid here each
+use Rattle.runs.proofs.ConsumerLaws.{consumer_restarts}
+use Rattle.runs.proofs.Restarts.{events_valid, sequencer_in_place, replica_in_place, client_in_place, consumer_in_place}
+use Rattle.runs.proofs.InPlace.{with_event, events_of, RestartsInPlace, own_step, other_step}
 
 -- ---- what an entry leaves
 

@@ -2,28 +2,28 @@
 use Rattle.std.proofs.Common.{◌≡◌, ℕ, Bool, false, List, [], ◌∷◌, ◌++◌, length, map, replicate, Option, Some, refl, sym, ap, ◌∙◌, subst, arith}
 use Rattle.std.specs.Prelude.{slice_set, IsSomeAnd}
 use Rattle.std.specs.List.{slice_get}
-use Rattle.std.proofs.lemmas.List.{length-append, length-replicate, length-reverse}
+use Rattle.std.proofs.lemmas.Option.{slice_get_within, get_or_from_slice_get}
+use Rattle.std.proofs.lemmas.List.{length-append, length-replicate, reverse-append}
 use Rattle.msg_wire.specs.Nodes.{nodes_of}
 use Rattle.msg_wire.specs.Valid.{IsValidConfig, IsNodeOf, IsValidMessage}
 use Rattle.msg_wire.specs.Steps.{AreValidMessages, IsValidStep}
 use Rattle.net_model.specs.Pasts.{Past, past_of, sent}
-use Rattle.node_rules.proofs.SoundTurns.{all_append}
+use Rattle.node_rules.proofs.Lists.{all_append}
 use Rattle.world.specs.declared.any_node.AnyNode.{AnyNode}
-use Rattle.world.specs.declared.outbox.Place.{Place}
-use Rattle.world.specs.Names.{NodeId, Config, Message, Event, Step, HistoryEntry}
-use Rattle.world.specs.Names.nodes
-use Rattle.world.specs.Kinds.{step_at}
+use Rattle.node_rules.specs.Turns.{empty_step}
+use Rattle.runs.specs.Names.{NodeId, Config, Message, Item, Event, Step, HistoryEntry}
+use Rattle.runs.specs.Names.nodes
+use Rattle.runs.specs.Names.events
+use Rattle.runs.specs.Kinds.{step_at}
 use Rattle.world.specs.Playing.{entry_made}
-use Rattle.world.specs.AnyNodes.{fresh_any, gives_any, leaves_any, node_after}
-use Rattle.world.specs.Outboxes.{OutboxState}
-use Rattle.world.specs.Places.{place_of, places_in}
-use Rattle.world.specs.Players.{IsPlayed, CanTake}
+use Rattle.world.specs.AnyNodes.{fresh_any, gives_any, leaves_any, is_spent_any, node_after}
+use Rattle.world.specs.Places.{place_of}
+use Rattle.world.specs.Players.{PlayerState, happens, IsPlayed, CanTake}
 use Rattle.world.proofs.Lists.{map_same, all_at}
-use Rattle.world.proofs.SameNodes.{node_itself}
-use Rattle.world.proofs.After.{gives_after}
-use Rattle.world.proofs.Messages.{past-push}
+use Rattle.runs.proofs.SameNodes.{node_itself}
+use Rattle.world.proofs.After.{gives_after, ready_after}
 use Rattle.world.proofs.NodesAfter.{node_there, nodes_after}
-use Rattle.world.proofs.Within.{GoesWithin}
+use Rattle.node_rules.proofs.Within.{GoesWithin}
 use Rattle.world.proofs.WithinRuns.{sent_within}
 
 -- ---- at the start
@@ -34,14 +34,13 @@ starts c (nodes.Shard n side) = refl
 starts c (nodes.Client n) = refl
 starts c (nodes.Consumer n) = refl
 
-pub nothing_happened : (c : Config) (made : List AnyNode) → IsValidConfig c → made ≡ map (fresh_any c) (nodes_of c) → IsPlayed c [] made [] []
+pub nothing_happened : (c : Config) (made : List AnyNode) → IsValidConfig c → made ≡ map (fresh_any c) (nodes_of c) → IsPlayed c [] made []
 nothing_happened c made valid fresh = record {
   cfg = valid;
   run = tt;
   commands = tt;
   messages = tt;
   nodes_are = fresh ∙ map_same (fresh_any c) (node_after c []) (nodes_of c) (λ j node _. starts c node);
-  places_are = refl;
   flags = refl;
 }
 
@@ -50,11 +49,11 @@ nothing_happened c made valid fresh = record {
 abbrev sends_of : Config → Past → NodeId → Event → List Message
 sends_of c past node event = (step_at c node past event).sends
 
-pub happened : (c : Config) (past : Past) (made : List AnyNode) (places : List Place) (settled : List Bool) (node : NodeId) (event : Event)
-    → IsPlayed c past made places settled → CanTake c past node event → AreValidMessages (step_at c node past event).sends
+pub happened : (c : Config) (past : Past) (made : List AnyNode) (settled : List Bool) (node : NodeId) (event : Event)
+    → IsPlayed c past made settled → CanTake c past node event → AreValidMessages (step_at c node past event).sends
     → IsPlayed c (entry_made c past node event ∷ past) (slice_set made (place_of c node) (leaves_any (node_after c past node) event))
-    (places ++ places_in (length past) (length (step_at c node past event).sends)) (settled ++ replicate (length (step_at c node past event).sends) false)
-happened c past made places settled node event is can valid = record {
+    (settled ++ replicate (length (step_at c node past event).sends) false)
+happened c past made settled node event is can valid = record {
   cfg = is.cfg;
   run = (record { within = can.within; valid = can.valid; taken_there = can.taken_there; comes = can.comes; sends = refl; shows = refl }, is.run);
   commands = (can.command, is.commands);
@@ -62,105 +61,129 @@ happened c past made places settled node event is can valid = record {
   nodes_are =
       ap (λ (all : List AnyNode). slice_set all (place_of c node) (leaves_any (node_after c past node) event)) is.nodes_are
       ∙ nodes_after c (entry_made c past node event) past is.cfg can.within is.run (node_itself node);
-  places_are = ap (λ (all : List Place). all ++ places_in (length past) (length (sends_of c past node event))) is.places_are;
   flags =
       omega (arith, is.flags, length-append settled (replicate (length (sends_of c past node event)) false), length-replicate (length (sends_of c past node event)) false, length-append (sent past) (sends_of c past node event));
 }
 
 -- ---- messages
 
-pub valid_message : (c : Config) (past : Past) (made : List AnyNode) (places : List Place) (settled : List Bool) (number : ℕ) (m : Message) → IsPlayed c past made places settled → slice_get (sent past) number ≡ Some m → IsValidMessage m
-valid_message c past made places settled number m is e = all_at IsValidMessage (sent past) number m is.messages e
+pub valid_message : (c : Config) (past : Past) (made : List AnyNode) (settled : List Bool) (number : ℕ) (m : Message) → IsPlayed c past made settled → slice_get (sent past) number ≡ Some m → IsValidMessage m
+valid_message c past made settled number m is e = all_at IsValidMessage (sent past) number m is.messages e
 
-pub message_within : (c : Config) (past : Past) (made : List AnyNode) (places : List Place) (settled : List Bool) (number : ℕ) (m : Message) → IsPlayed c past made places settled → slice_get (sent past) number ≡ Some m → IsNodeOf c m.to
-message_within c past made places settled number m is e = (all_at (GoesWithin c) (sent past) number m (sent_within c past is.cfg is.run is.commands) e).to
+pub message_within : (c : Config) (past : Past) (made : List AnyNode) (settled : List Bool) (number : ℕ) (m : Message) → IsPlayed c past made settled → slice_get (sent past) number ≡ Some m → IsNodeOf c m.to
+message_within c past made settled number m is e = (all_at (GoesWithin c) (sent past) number m (sent_within c past is.cfg is.run is.commands) e).to
 
 -- ---- in a player
 
 -- the parts of what is played, each by another name
-pub along : (c : Config) (past past' : Past) (made made' : List AnyNode) (places places' : List Place) (settled settled' : List Bool) → past' ≡ past → made' ≡ made → places' ≡ places → settled' ≡ settled
-    → IsPlayed c past made places settled → IsPlayed c past' made' places' settled'
-along c past past' made made' places places' settled settled' pasts nodes placed flags is =
-    subst (λ (x : Past). IsPlayed c x made' places' settled') (sym pasts)
-    (subst (λ (x : List AnyNode). IsPlayed c past x places' settled') (sym nodes)
-    (subst (λ (x : List Place). IsPlayed c past made x settled') (sym placed)
-    (subst (λ (x : List Bool). IsPlayed c past made places x) (sym flags) is)))
+pub along : (c : Config) (past past' : Past) (made made' : List AnyNode) (settled settled' : List Bool) → past' ≡ past → made' ≡ made → settled' ≡ settled
+    → IsPlayed c past made settled → IsPlayed c past' made' settled'
+along c past past' made made' settled settled' pasts nodes flags is =
+    subst (λ (x : Past). IsPlayed c x made' settled') (sym pasts)
+    (subst (λ (x : List AnyNode). IsPlayed c past x settled') (sym nodes)
+    (subst (λ (x : List Bool). IsPlayed c past made x) (sym flags) is))
 
--- an entry at the end of a history, and what else a step has left
-pub record HasHappened (c : Config) (history : List HistoryEntry) (made : List AnyNode) (outbox : OutboxState) (node : NodeId) (event : Event) (out : Step)
-    (history' : List HistoryEntry) (made' : List AnyNode) (outbox' : OutboxState) : Type 0 where
-  pub gives : out ≡ gives_any (node_after c (past_of history) node) event
-  pub leaves : made' ≡ slice_set made (place_of c node) (leaves_any (node_after c (past_of history) node) event)
-  pub valid : IsValidStep out
-  pub entry : history' ≡ history ++ record { node = node; event = event; sends = out.sends; marks = out.marks } ∷ []
-  pub places : outbox'.places ≡ outbox.places ++ places_in (length history) (length out.sends)
-  pub flags : outbox'.settled ≡ outbox.settled ++ replicate (length out.sends) false
+-- what a player has that steps change
+pub record Scene : Type 0 where
+  pub history : List HistoryEntry
+  pub made : List AnyNode
+  pub settled : List Bool
+
+abbrev pub IsScene : Config → Scene → Type 0
+IsScene c s = IsPlayed c (past_of s.history) s.made s.settled
 
 abbrev entry_with : NodeId → Event → Step → HistoryEntry
 entry_with node event out = record { node = node; event = event; sends = out.sends; marks = out.marks }
 
-step_is : (c : Config) (history : List HistoryEntry) (made : List AnyNode) (outbox : OutboxState) (node : NodeId) (event : Event) (out : Step) (history' : List HistoryEntry) (made' : List AnyNode) (outbox' : OutboxState)
-    → HasHappened c history made outbox node event out history' made' outbox' → out ≡ step_at c node (past_of history) event
-step_is c history made outbox node event out history' made' outbox' has = has.gives ∙ gives_after c node (past_of history) event
+-- an entry at the end of a history, and what else a step has left
+pub record HasHappened (c : Config) (s : Scene) (node : NodeId) (event : Event) (out : Step) (later : Scene) : Type 0 where
+  pub gives : out ≡ gives_any (node_after c (past_of s.history) node) event
+  pub leaves : later.made ≡ slice_set s.made (place_of c node) (leaves_any (node_after c (past_of s.history) node) event)
+  pub valid : IsValidStep out
+  pub entry : later.history ≡ s.history ++ record { node = node; event = event; sends = out.sends; marks = out.marks } ∷ []
+  pub flags : later.settled ≡ s.settled ++ replicate (length out.sends) false
 
-pub past_is : (c : Config) (history : List HistoryEntry) (made : List AnyNode) (outbox : OutboxState) (node : NodeId) (event : Event) (out : Step) (history' : List HistoryEntry) (made' : List AnyNode) (outbox' : OutboxState)
-    → HasHappened c history made outbox node event out history' made' outbox' → past_of history' ≡ entry_made c (past_of history) node event ∷ past_of history
-past_is c history made outbox node event out history' made' outbox' has =
+step_is : (c : Config) (s : Scene) (node : NodeId) (event : Event) (out : Step) (later : Scene) → HasHappened c s node event out later → out ≡ step_at c node (past_of s.history) event
+step_is c s node event out later has = has.gives ∙ gives_after c node (past_of s.history) event
+
+pub past_is : (c : Config) (s : Scene) (node : NodeId) (event : Event) (out : Step) (later : Scene) → HasHappened c s node event out later
+    → past_of later.history ≡ entry_made c (past_of s.history) node event ∷ past_of s.history
+past_is c s node event out later has =
     ap past_of has.entry
-    ∙ past-push history (entry_with node event out)
-    ∙ ap (λ (o : Step). entry_with node event o ∷ past_of history) (step_is c history made outbox node event out history' made' outbox' has)
+    ∙ reverse-append s.history (entry_with node event out ∷ [])
+    ∙ ap (λ (o : Step). entry_with node event o ∷ past_of s.history) (step_is c s node event out later has)
 
-pub flags_are : (c : Config) (history : List HistoryEntry) (made : List AnyNode) (outbox : OutboxState) (node : NodeId) (event : Event) (out : Step) (history' : List HistoryEntry) (made' : List AnyNode) (outbox' : OutboxState)
-    → HasHappened c history made outbox node event out history' made' outbox' → outbox'.settled ≡ outbox.settled ++ replicate (length (step_at c node (past_of history) event).sends) false
-flags_are c history made outbox node event out history' made' outbox' has =
-    has.flags ∙ ap (λ (o : Step). outbox.settled ++ replicate (length o.sends) false) (step_is c history made outbox node event out history' made' outbox' has)
+pub flags_are : (c : Config) (s : Scene) (node : NodeId) (event : Event) (out : Step) (later : Scene) → HasHappened c s node event out later
+    → later.settled ≡ s.settled ++ replicate (length (step_at c node (past_of s.history) event).sends) false
+flags_are c s node event out later has = has.flags ∙ ap (λ (o : Step). s.settled ++ replicate (length o.sends) false) (step_is c s node event out later has)
 
-pub played_on : (c : Config) (history : List HistoryEntry) (made : List AnyNode) (outbox : OutboxState) (node : NodeId) (event : Event) (out : Step) (history' : List HistoryEntry) (made' : List AnyNode) (outbox' : OutboxState)
-    → IsPlayed c (past_of history) made outbox.places outbox.settled → CanTake c (past_of history) node event → HasHappened c history made outbox node event out history' made' outbox'
-    → IsPlayed c (past_of history') made' outbox'.places outbox'.settled
-played_on c history made outbox node event out history' made' outbox' is can has =
-    let same = step_is c history made outbox node event out history' made' outbox' has in
-    along c (entry_made c (past_of history) node event ∷ past_of history) (past_of history') _ made' _ outbox'.places _ outbox'.settled
-    (past_is c history made outbox node event out history' made' outbox' has)
-    has.leaves
-    (has.places
-    ∙ ap (λ (n : ℕ). outbox.places ++ places_in n (length out.sends)) (sym (length-reverse history))
-    ∙ ap (λ (o : Step). outbox.places ++ places_in (length (past_of history)) (length o.sends)) same)
-    (flags_are c history made outbox node event out history' made' outbox' has)
-    (happened c (past_of history) made outbox.places outbox.settled node event is can (subst (λ (o : Step). AreValidMessages o.sends) same has.valid.sends))
+pub played_on : (c : Config) (s : Scene) (node : NodeId) (event : Event) (out : Step) (later : Scene) → IsScene c s → CanTake c (past_of s.history) node event → HasHappened c s node event out later → IsScene c later
+played_on c s node event out later is can has =
+    let same = step_is c s node event out later has in
+    along c (entry_made c (past_of s.history) node event ∷ past_of s.history) (past_of later.history) _ later.made _ later.settled
+    (past_is c s node event out later has) has.leaves (flags_are c s node event out later has)
+    (happened c (past_of s.history) s.made s.settled node event is can (subst (λ (o : Step). AreValidMessages o.sends) same has.valid.sends))
+
+-- so a player that shows the one shows the other once the event happened
+pub happens_is : (c : Config) (s : Scene) (turn : ℕ) (node : NodeId) (event : Event) (out : Step) (later : Scene) → HasHappened c s node event out later
+    → record { cfg = c; past = past_of later.history; settled = later.settled; turn = turn } ≡ happens node event (record { cfg = c; past = past_of s.history; settled = s.settled; turn = turn })
+happens_is c s turn node event out later has =
+    let made : Past → List Bool → PlayerState = λ past flags. record { cfg = c; past = past; settled = flags; turn = turn } in
+    ap (λ (past : Past). made past later.settled) (past_is c s node event out later has)
+    ∙ ap (made (entry_made c (past_of s.history) node event ∷ past_of s.history)) (flags_are c s node event out later has)
 
 -- the node at its place, among those of a player
-pub stands_there : (c : Config) (past : Past) (made : List AnyNode) (places : List Place) (settled : List Bool) (node : NodeId) (place : ℕ) → IsPlayed c past made places settled → IsNodeOf c node → place ≡ place_of c node
+pub stands_there : (c : Config) (past : Past) (made : List AnyNode) (settled : List Bool) (node : NodeId) (place : ℕ) → IsPlayed c past made settled → IsNodeOf c node → place ≡ place_of c node
     → slice_get made place ≡ Some (node_after c past node)
-stands_there c past made places settled node place is here at =
+stands_there c past made settled node place is here at =
     ap (λ (all : List AnyNode). slice_get all place) is.nodes_are
     ∙ ap (slice_get (map (node_after c past) (nodes_of c))) at
     ∙ node_there c past node here
 
+-- it is ready
+pub ready_there : (c : Config) (past : Past) (made : List AnyNode) (settled : List Bool) (node : NodeId) (place : ℕ) → IsPlayed c past made settled → IsNodeOf c node → place ≡ place_of c node
+    → IsSomeAnd (slice_get made place) (λ n. is_spent_any n ≡ false)
+ready_there c past made settled node place is here at =
+    let ready : Option AnyNode → Type 0 = λ o. IsSomeAnd o (λ n. is_spent_any n ≡ false) in
+    subst ready (sym (stands_there c past made settled node place is here at)) (ready_after c node past)
+
 -- what the calls of a step have left
-pub has_happened : (c : Config) (history : List HistoryEntry) (made : List AnyNode) (outbox : OutboxState) (node : NodeId) (event : Event) (out : Step) (place entries sends : ℕ)
-    (history' : List HistoryEntry) (made' : List AnyNode) (outbox' : OutboxState)
+pub has_happened : (c : Config) (s : Scene) (node : NodeId) (event : Event) (out : Step) (place sends : ℕ) (later : Scene)
     → place ≡ place_of c node
-    → slice_get made place ≡ Some (node_after c (past_of history) node)
-    → IsSomeAnd (slice_get made place) (λ n. out ≡ gives_any n event)
-    → IsSomeAnd (slice_get made place) (λ n. made' ≡ slice_set made place (leaves_any n event))
+    → slice_get s.made place ≡ Some (node_after c (past_of s.history) node)
+    → IsSomeAnd (slice_get s.made place) (λ n. out ≡ gives_any n event)
+    → IsSomeAnd (slice_get s.made place) (λ n. later.made ≡ slice_set s.made place (leaves_any n event))
     → IsValidStep out
-    → history' ≡ history ++ record { node = node; event = event; sends = out.sends; marks = out.marks } ∷ []
-    → entries ≡ length history
+    → later.history ≡ s.history ++ record { node = node; event = event; sends = out.sends; marks = out.marks } ∷ []
     → sends ≡ length out.sends
-    → outbox' ≡ record { places = outbox.places ++ places_in entries sends; settled = outbox.settled ++ replicate sends false }
-    → HasHappened c history made outbox node event out history' made' outbox'
-has_happened c history made outbox node event out place entries sends history' made' outbox' at there gives leaves valid entry some many put =
+    → later.settled ≡ s.settled ++ replicate sends false
+    → HasHappened c s node event out later
+has_happened c s node event out place sends later at there gives leaves valid entry many put =
     let gives_at : Option AnyNode → Type 0 = λ o. IsSomeAnd o (λ n. out ≡ gives_any n event) in
-    let leaves_at : Option AnyNode → Type 0 = λ o. IsSomeAnd o (λ n. made' ≡ slice_set made place (leaves_any n event)) in
+    let leaves_at : Option AnyNode → Type 0 = λ o. IsSomeAnd o (λ n. later.made ≡ slice_set s.made place (leaves_any n event)) in
     record {
       gives = subst gives_at there gives;
-      leaves = subst leaves_at there leaves ∙ ap (λ (k : ℕ). slice_set made k (leaves_any (node_after c (past_of history) node) event)) at;
+      leaves = subst leaves_at there leaves ∙ ap (λ (k : ℕ). slice_set s.made k (leaves_any (node_after c (past_of s.history) node) event)) at;
       valid = valid;
       entry = entry;
-      places =
-          ap (λ (o : OutboxState). o.places) put
-          ∙ ap (λ (n : ℕ). outbox.places ++ places_in n sends) some
-          ∙ ap (λ (n : ℕ). outbox.places ++ places_in (length history) n) many;
-      flags = ap (λ (o : OutboxState). o.settled) put ∙ ap (λ (n : ℕ). outbox.settled ++ replicate n false) many;
+      flags = put ∙ ap (λ (n : ℕ). s.settled ++ replicate n false) many;
     }
+
+-- a message that was sent can be taken by the node that it was sent to
+pub can_take : (c : Config) (past : Past) (made : List AnyNode) (settled : List Bool) (number : ℕ) (m : Message) → IsPlayed c past made settled → slice_get (sent past) number ≡ Some m → CanTake c past m.to (events.Deliver m)
+can_take c past made settled number m is e = record {
+  within = message_within c past made settled number m is e;
+  valid = valid_message c past made settled number m is e;
+  taken_there = tt;
+  comes = (refl, (number, slice_get_within (sent past) number m e, get_or_from_slice_get (sent past) number m m e));
+  command = tt;
+}
+
+-- ---- between calls
+
+abbrev storing : List Item → Step → Step
+storing stable out = record { stable = stable; sends = out.sends; marks = out.marks }
+
+-- a step whose sends and marks are moved and whose items are dropped gives nothing
+pub emptied : (out moved : Step) (stable : List Item) → moved ≡ record { stable = out.stable; sends = []; marks = [] } → stable ≡ [] → record { stable = stable; sends = moved.sends; marks = moved.marks } ≡ empty_step
+emptied out moved stable is clear = ap (λ (xs : List Item). storing xs moved) clear ∙ ap (storing []) is

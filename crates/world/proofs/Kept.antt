@@ -11,10 +11,10 @@ use Rattle.net_model.specs.Pasts.{Past, sent}
 use Rattle.msg_wire.specs.Nodes.{nodes_of}
 use Rattle.world.specs.declared.errors.PlayError.{PlayError}
 use Rattle.world.specs.declared.errors.PlayError.TheVariants.{NoMessage}
-use Rattle.world.specs.Names.{NodeId, Config, Message, Event, Input, HistoryEntry}
-use Rattle.world.specs.Names.nodes
-use Rattle.world.specs.Names.events
-use Rattle.world.specs.Names.inputs
+use Rattle.runs.specs.Names.{NodeId, Config, Message, Event, Input, HistoryEntry}
+use Rattle.runs.specs.Names.nodes
+use Rattle.runs.specs.Names.events
+use Rattle.runs.specs.Names.inputs
 use Rattle.world.specs.Playing.{Playing, nothing_played, entry_made, happen, settle, deliver, next_open, tick_next, drain_once, drained, played, length_fault, input_fault}
 use Rattle.world.specs.Players.{PlayerState, is_settled, flags_of, kept_of, happens, settles, delivers, ticks_next, drains_once, drains, plays, IsSentBefore}
 use Rattle.world.proofs.Lists.{set_map, ranged, flags_more, first_unset}

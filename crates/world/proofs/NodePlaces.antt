@@ -7,9 +7,9 @@ use Rattle.std.proofs.lemmas.Option.{slice_get_within}
 use Rattle.fix_ante.proofs.Entries.{slice_get-append_left, slice_get-append_right}
 use Rattle.msg_wire.specs.Nodes.{sequencers_of, replicas_of, all_replicas_of, clients_of, consumers_of, nodes_of}
 use Rattle.msg_wire.specs.Valid.{IsNodeOf}
-use Rattle.world.specs.Names.{NodeId, Config}
-use Rattle.world.specs.Names.nodes
-use Rattle.world.specs.Names.sides
+use Rattle.runs.specs.Names.{NodeId, Config}
+use Rattle.runs.specs.Names.nodes
+use Rattle.runs.specs.Names.sides
 use Rattle.world.specs.Places.{place_of}
 use Rattle.world.proofs.Lists.{all_from}
 

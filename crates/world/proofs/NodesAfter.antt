@@ -8,11 +8,11 @@ use Rattle.std.proofs.lemmas.Option.{slice_get-map}
 use Rattle.msg_wire.specs.Nodes.{same_node, nodes_of}
 use Rattle.msg_wire.specs.Valid.{IsValidConfig, IsNodeOf}
 use Rattle.net_model.specs.Pasts.{Past}
-use Rattle.world.specs.Names.{NodeId, Config, HistoryEntry}
-use Rattle.world.specs.Runs.{IsPastOf}
+use Rattle.runs.specs.Names.{NodeId, Config, HistoryEntry}
+use Rattle.runs.specs.Runs.{IsPastOf}
 use Rattle.world.specs.AnyNodes.{leaves_any, node_after}
 use Rattle.world.specs.Places.{place_of}
-use Rattle.world.proofs.SameNodes.{same_node_is}
+use Rattle.runs.proofs.SameNodes.{same_node_is}
 use Rattle.world.proofs.Lists.{set_map}
 use Rattle.world.proofs.NodePlaces.{place-there, place-only}
 use Rattle.world.proofs.After.{own_after, other_after}

@@ -9,7 +9,7 @@ use Rattle.msg_wire.specs.Inputs.{IsInputOf}
 use Rattle.net_model.specs.Pasts.{sent}
 use Rattle.world.specs.declared.errors.PlayError.{PlayError}
 use Rattle.world.specs.declared.errors.PlayError.TheVariants as faults
-use Rattle.world.specs.Names.{Config, Input}
+use Rattle.runs.specs.Names.{Config, Input}
 use Rattle.world.specs.Playing.{Playing, nothing_played, played, played_all, history_of, input_fault, played_unless, fault_from, play_fault}
 use Rattle.world.specs.Players.{PlayerState, kept_of, played_of, plays, IsSentBefore}
 use Rattle.world.specs.PlayErrors.{IsRefusal}

@@ -5,8 +5,8 @@ use Rattle.std.specs.List.{slice_get}
 use Rattle.std.specs.Option.{option_map_or}
 use Rattle.std.proofs.lemmas.Result.{IfOk-weaker}
 use Rattle.msg_wire.specs.Nodes.{nodes_of}
-use Rattle.world.specs.Names.{NodeId}
-use Rattle.world.specs.Names.events
+use Rattle.runs.specs.Names.{NodeId}
+use Rattle.runs.specs.Names.events
 use Rattle.world.specs.Players.{PlayerState, happens, ticks_next}
 
 abbrev turned : PlayerState → ℕ → PlayerState

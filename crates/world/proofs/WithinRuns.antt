@@ -14,7 +14,7 @@ use Rattle.node_rules.specs.Names.commands
 use Rattle.node_rules.specs.Nodes.{Node}
 use Rattle.node_rules.specs.Turns.{Turn}
 use Rattle.node_rules.specs.Lives.{life_of}
-use Rattle.node_rules.proofs.SoundTurns.{all_append}
+use Rattle.node_rules.proofs.Lists.{all_append}
 use Rattle.seq_node.specs.Steps.{sequencer_step}
 use Rattle.seq_node.specs.Restart as sequencer
 use Rattle.shard_node.specs.Steps.{replica_step}
@@ -24,20 +24,19 @@ use Rattle.client_node.specs.Restart as client
 use Rattle.consumer_node.specs.Apps.{any_meaning}
 use Rattle.consumer_node.specs.Steps.{consumer_step}
 use Rattle.consumer_node.specs.Restart as consumer
-use Rattle.world.specs.Names.{NodeId, Config, Item, Event}
-use Rattle.world.specs.Names.nodes
-use Rattle.world.specs.Names.events
-use Rattle.world.specs.Kinds.{step_at}
-use Rattle.world.specs.Runs.{Comes, IsPastOf}
+use Rattle.runs.specs.Names.{NodeId, Config, Item, Event}
+use Rattle.runs.specs.Names.nodes
+use Rattle.runs.specs.Names.events
+use Rattle.runs.specs.Kinds.{step_at}
+use Rattle.runs.specs.Runs.{Comes, IsPastOf}
 use Rattle.world.specs.Players.{IsCommandAt, AreCommandsOf}
-use Rattle.world.proofs.InPlace.{with_event, events_of, table_of, RestartsInPlace, progress_is}
-use Rattle.world.proofs.After.{events_valid, sequencer_in_place, replica_in_place, client_in_place, consumer_in_place}
-use Rattle.world.proofs.Within.{CommandHasNodes, GoesWithin, TakesWithin, StaysWithin, IsWithin}
-use Rattle.world.proofs.WithinDeciding.{HasEntries}
-use Rattle.world.proofs.WithinSequencers.{sequencer_within}
-use Rattle.world.proofs.WithinReplicas.{HasShard, replica_within}
-use Rattle.world.proofs.WithinClients.{HasHome, client_within}
-use Rattle.world.proofs.WithinConsumers.{HasAny, consumer_within}
+use Rattle.runs.proofs.InPlace.{with_event, events_of, table_of, RestartsInPlace, progress_is}
+use Rattle.runs.proofs.Restarts.{events_valid, sequencer_in_place, replica_in_place, client_in_place, consumer_in_place}
+use Rattle.node_rules.proofs.Within.{CommandHasNodes, GoesWithin, TakesWithin, StaysWithin, IsWithin}
+use Rattle.seq_node.proofs.Within.{HasEntries, sequencer_within}
+use Rattle.shard_node.proofs.Within.{HasShard, replica_within}
+use Rattle.client_node.proofs.Within.{HasHome, client_within}
+use Rattle.consumer_node.proofs.Within.{HasAny, consumer_within}
 
 -- ---- lives
 
@@ -48,8 +47,7 @@ life_within : {S : Type 0} → (c : Config) (P : NodeId → S → Type 0) (step 
     → KeepsSteps c S P step → IsWithin c S P fresh → AllByRecursion (TakesWithin c) taken → IsWithin c S P (life_of step fresh taken).node
 life_within c P step fresh [] keeps start all = start
 life_within c P step fresh (event ∷ taken) keeps start all =
-    let stays = keeps (life_of step fresh taken).node event all.0 (life_within c P step fresh taken keeps start all.1) in
-    record { cfg = stays.cfg; me = stays.me; known = stays.known; own = stays.own }
+    (keeps (life_of step fresh taken).node event all.0 (life_within c P step fresh taken keeps start all.1)).is
 
 -- what a node of a past sends next
 sends_within : {S : Type 0} → (c : Config) (P : NodeId → S → Type 0) (step : Node S → Event → Turn S) (fresh : Node S) (restart : List Item → Node S) (node : NodeId) (past : Past) (event : Event)
@@ -83,7 +81,7 @@ step_within : (c : Config) (node : NodeId) (past : Past) (event : Event) → IsV
 step_within c (nodes.Seq n) past event valid here run taken takes =
     let node : NodeId = nodes.Seq n in
     sends_within c (HasEntries c) sequencer_step (sequencer.fresh_node c node) (sequencer.restart_of c node) node past event (sequencer_in_place c node valid here) (events_valid c node past run)
-    (λ m e t is. sequencer_within c m e valid t is) (record { cfg = refl; me = here; known = tt; own = record { acceptors = tt; wishes = tt; attempt = tt } }) taken takes
+    (λ m e t is. sequencer_within c m e valid t is) (record { cfg = refl; me = here; known = tt; own = (tt, tt, tt) }) taken takes
 step_within c (nodes.Shard n side) past event valid here run taken takes =
     let node : NodeId = nodes.Shard n side in
     sends_within c (HasShard c) replica_step (replica.fresh_node c node) (replica.restart_of c node) node past event (replica_in_place c node valid here) (events_valid c node past run)

@@ -5,7 +5,7 @@ ghost use Rattle.msg_wire.specs.Steps.{IsValidStep};
 use app_law::AnyApp;
 use client_node::ClientNode;
 use consumer_node::ConsumerNode;
-use msg_wire::{Config, Event, Items, Step};
+use msg_wire::{Config, Event, Items, Message, Step};
 use net_model::NodeModel;
 use quota_table::OutOfMemory;
 use seq_node::SeqNode;
@@ -66,6 +66,34 @@ impl NodeModel for AnyNode {
             AnyNode::Shard(node) => node.step(alloc, event),
             AnyNode::Client(node) => node.step(alloc, event),
             AnyNode::Consumer(node) => node.step(alloc, event),
+        }
+    }
+
+    fn step_into(
+        &mut self,
+        alloc: Global,
+        event: &Event,
+        out: &mut Step,
+    ) -> Result<(), OutOfMemory> {
+        match self {
+            AnyNode::Seq(node) => node.step_into(event, out),
+            AnyNode::Shard(node) => node.step_into(event, out),
+            AnyNode::Client(node) => node.step_into(event, out),
+            AnyNode::Consumer(node) => node.step_into(alloc, event, out),
+        }
+    }
+
+    fn deliver_into(
+        &mut self,
+        alloc: Global,
+        message: &Message,
+        out: &mut Step,
+    ) -> Result<(), OutOfMemory> {
+        match self {
+            AnyNode::Seq(node) => node.deliver_into(message, out),
+            AnyNode::Shard(node) => node.deliver_into(message, out),
+            AnyNode::Client(node) => node.deliver_into(message, out),
+            AnyNode::Consumer(node) => node.deliver_into(alloc, message, out),
         }
     }
 }

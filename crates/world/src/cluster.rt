@@ -3,12 +3,14 @@
 ghost use Rattle.std.specs.Prelude.{◌≡◌, ◌<◌, ◌++◌, false, map, length, slice_get, slice_set, All, IfOk, OnOk, IsSomeAnd};
 ghost use Rattle.msg_wire.specs.Nodes.{sequencers_of, replicas_of, all_replicas_of, clients_of, consumers_of, nodes_of};
 ghost use Rattle.msg_wire.specs.Steps.{IsValidStep};
-ghost use Rattle.msg_wire.specs.Valid.{IsValidConfig, IsNodeOf, IsValidEvent};
+ghost use Rattle.msg_wire.specs.Valid.{IsValidConfig, IsNodeOf, IsValidMessage, IsValidEvent};
+ghost use Rattle.node_rules.specs.Turns.{empty_step};
 ghost use Rattle.world.specs.AnyNodes.{fresh_any, gives_any, leaves_any, is_spent_any};
+ghost use Rattle.runs.specs.Names.events;
 ghost use Rattle.world.specs.Places.{place_of};
 
 use crate::any_node::AnyNode;
-use msg_wire::{Config, Event, Step};
+use msg_wire::{Config, Event, Message, Step};
 use net_model::NodeModel;
 use quota_table::OutOfMemory;
 use spec_base::{NodeId, Side};
@@ -107,19 +109,40 @@ pub(crate) fn fresh_nodes(
     Ok(made)
 }
 
-/// The node at a place takes a step. After want of memory that node is spent.
+/// The node at a place takes a step, written into one that gives nothing yet. After want of memory that node is spent.
 pub(crate) fn step_at(
     made: &mut Vec<AnyNode>,
     place: usize,
     alloc: Global,
     event: &Event,
-) -> Result<Step, OutOfMemory>
+    out: &mut Step,
+) -> Result<(), OutOfMemory>
     requires there { IsSomeAnd (slice_get made.old.items place) (λ node. is_spent_any node ≡ false) }
     requires valid { IsValidEvent event.now }
-    ensures gives { IfOk result (λ out. IsSomeAnd (slice_get made.old.items place) (λ node. out ≡ gives_any node event.now)) }
+    requires empty { out.old ≡ empty_step }
+    ensures gives { OnOk result (IsSomeAnd (slice_get made.old.items place) (λ node. out.new ≡ gives_any node event.now)) }
     ensures leaves { OnOk result (IsSomeAnd (slice_get made.old.items place) (λ node. made.new.items ≡ slice_set made.old.items place (leaves_any node event.now))) }
-    ensures valid { IfOk result IsValidStep }
+    ensures valid { OnOk result (IsValidStep out.new) }
 {
     let node = &mut made[place];
-    node.step(alloc, event)
+    node.step_into(alloc, event, out)
+}
+
+/// A message comes to the node at a place, as `step_at` takes the event; the message is not copied.
+pub(crate) fn deliver_at(
+    made: &mut Vec<AnyNode>,
+    place: usize,
+    alloc: Global,
+    message: &Message,
+    out: &mut Step,
+) -> Result<(), OutOfMemory>
+    requires there { IsSomeAnd (slice_get made.old.items place) (λ node. is_spent_any node ≡ false) }
+    requires valid { IsValidMessage message.now }
+    requires empty { out.old ≡ empty_step }
+    ensures gives { OnOk result (IsSomeAnd (slice_get made.old.items place) (λ node. out.new ≡ gives_any node (events.Deliver message.now))) }
+    ensures leaves { OnOk result (IsSomeAnd (slice_get made.old.items place) (λ node. made.new.items ≡ slice_set made.old.items place (leaves_any node (events.Deliver message.now)))) }
+    ensures valid { OnOk result (IsValidStep out.new) }
+{
+    let node = &mut made[place];
+    node.deliver_into(alloc, message, out)
 }

@@ -2,7 +2,7 @@
 
 ghost use Rattle.std.specs.Prelude.{◌≡◌, IfOk};
 
-use msg_wire::{Command, Config, Message};
+use msg_wire::{Command, Config};
 use quota_table::OutOfMemory;
 
 /// A copy of a cluster.
@@ -17,11 +17,4 @@ pub(crate) fn copy_of_command(command: &Command) -> Result<Command, OutOfMemory>
     ensures { IfOk result (λ copy. copy ≡ command.now) }
 {
     Ok(command.clone()?)
-}
-
-/// A copy of a message.
-pub(crate) fn copy_of_message(message: &Message) -> Result<Message, OutOfMemory>
-    ensures { IfOk result (λ copy. copy ≡ message.now) }
-{
-    Ok(message.clone()?)
 }

@@ -1,10 +1,8 @@
-//! The runs of a cluster, and what every run is to be: safe.
+//! A cluster as it is played: the history that a script's inputs make, which is a run.
 //!
-//! - `specs/Runs.antt`: `IsRun`, the histories that follow the step tables of the four kinds of node.
-//! - `specs/Safety.antt`: `IsSafe`, the five laws of safety; `specs/Cuts.antt` and `specs/Eagerness.antt`: two laws more.
-//! - `specs/Playing.antt`: the history that a script's inputs make. [`play`] makes it, over nodes of any kind ([`AnyNode`]);
-//!   [`PlayError`] says why an input is refused.
-//! - [`laws`]: what is shown of these definitions so far.
+//! - `specs/Playing.antt`: that history. [`play`] makes it, over nodes of any kind ([`AnyNode`]); [`PlayError`] says why an
+//!   input is refused.
+//! - [`laws`]: what is shown of the definition on small scripts.
 #![tactic(auto)]
 
 mod any_node;

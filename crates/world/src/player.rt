@@ -3,19 +3,20 @@ ghost use Rattle.net_model.specs.Pasts.{past_of, sent};
 ghost use Rattle.msg_wire.specs.Inputs.{IsInputOf};
 ghost use Rattle.msg_wire.specs.Nodes.{nodes_of};
 ghost use Rattle.msg_wire.specs.Steps.{AreValidMessages};
-ghost use Rattle.msg_wire.specs.Valid.{IsValidConfig, IsNodeOf, IsValidMessage, IsBody, IsSequencerOf, IsCommandOf};
-ghost use Rattle.world.specs.Names.nodes;
-ghost use Rattle.world.specs.Names.events;
+ghost use Rattle.msg_wire.specs.Valid.{IsValidConfig, IsBody, IsSequencerOf, IsCommandOf};
+ghost use Rattle.runs.specs.Names.nodes;
+ghost use Rattle.runs.specs.Names.events;
 ghost use Rattle.world.specs.Playing.{nothing_played};
 ghost use Rattle.world.specs.Players.{kept_of, happens, settles, delivers, ticks_next, drains_once, drains, plays, IsSentBefore, CanTake};
-ghost use Rattle.world.specs.Runs.{IsRun};
+ghost use Rattle.runs.specs.Runs.{IsRun};
 
 use crate::any_node::AnyNode;
-use crate::cluster::{fresh_nodes, nodes_in_order, place_of, step_at};
-use crate::copies::{copy_of, copy_of_command, copy_of_message};
+use crate::cluster::{deliver_at, fresh_nodes, nodes_in_order, place_of, step_at};
+use crate::copies::{copy_of, copy_of_command};
 use crate::outbox::Outbox;
-use msg_wire::{Command, Config, Event, Input, Message, Step};
-use net_model::{History, HistoryEntry};
+use msg_wire::{Command, Config, Event, Input, Step};
+use net_model::History;
+use node_rules::empty_step;
 use quota_table::OutOfMemory;
 use record_codec::Body;
 use spec_base::NodeId;
@@ -42,10 +43,12 @@ struct Parts {
     nodes: Vec<AnyNode>,
     /// The entries so far, the oldest first.
     history: History,
-    /// The messages that these sent.
+    /// Which of the messages that these sent are settled.
     outbox: Outbox,
     /// The place of the node that a drain ticks next.
     turn: usize,
+    /// Each step is written into this one, and moved from it into the history; between calls it is empty.
+    step: Step,
 }
 
 impl Model for Player {
@@ -75,6 +78,7 @@ impl Player {
             history: History::new(alloc),
             outbox: Outbox::new(alloc),
             turn: 0,
+            step: empty_step(alloc),
         };
         let parts = Box::new(alloc, parts)?;
         Ok(Player { parts })
@@ -91,7 +95,7 @@ impl Player {
     pub fn sent(&self) -> usize
         ensures { result ≡ length (sent self.now.past) }
     {
-        self.parts.outbox.len()
+        self.parts.history.messages().len()
     }
 
     /// The entries, the oldest first.
@@ -130,19 +134,11 @@ impl Player {
         let Player { mut parts } = self;
         let inside = &mut *parts;
         let place = place_of(&inside.cfg, node);
-        let Step {
-            stable: _stable,
-            sends,
-            marks,
-        } = step_at(&mut inside.nodes, place, alloc, &event)?;
-        let number = inside.history.len();
-        inside.outbox.push(number, sends.len())?;
-        inside.history.push(HistoryEntry {
-            node,
-            event,
-            sends,
-            marks,
-        })?;
+        let step = &mut inside.step;
+        step_at(&mut inside.nodes, place, alloc, &event, step)?;
+        inside.outbox.push(step.sends.len())?;
+        inside.history.push_step(node, event, step)?;
+        step.stable.clear();
         Ok(Player { parts })
     }
 
@@ -169,24 +165,23 @@ impl Player {
         self.happen(alloc, node, event)
     }
 
-    /// A copy of the message of a number.
-    fn message(&self, number: usize) -> Result<Message, OutOfMemory>
-        requires { number < length (sent self.now.past) }
-        ensures message { IfOk result (λ message. slice_get (sent self.now.past) number ≡ Some message) }
-        ensures valid { IfOk result IsValidMessage }
-        ensures within { IfOk result (λ message. IsNodeOf self.now.cfg message.to) }
+    /// The node that the message of a number was sent to takes it.
+    #[inline(always)]
+    fn take_message(self, alloc: Global, number: usize) -> Result<Player, OutOfMemory>
+        requires { number < length (sent self.past) }
+        ensures { (message : _) → slice_get (sent self.past) number ≡ Some message → IfOk result (λ player. player ≡ happens message.to (events.Deliver message) self) }
     {
-        let parts = &*self.parts;
-        let Some(place) = parts.outbox.place(number) else {
-            unreachable!()
-        };
-        let Some(entry) = parts.history.get(place.entry as u64) else {
-            unreachable!()
-        };
-        let Some(message) = entry.sends.get(place.at as u64) else {
-            unreachable!()
-        };
-        copy_of_message(message)
+        let Player { mut parts } = self;
+        let inside = &mut *parts;
+        let message = &inside.history.messages()[number];
+        let node = message.to;
+        let place = place_of(&inside.cfg, node);
+        let step = &mut inside.step;
+        deliver_at(&mut inside.nodes, place, alloc, message, step)?;
+        inside.outbox.push(step.sends.len())?;
+        inside.history.push_delivery(node, number, step)?;
+        step.stable.clear();
+        Ok(Player { parts })
     }
 
     /// The message of a number is delivered or passed over from now on.
@@ -199,14 +194,12 @@ impl Player {
     }
 
     /// The message of a number comes to the node that it was sent to.
+    #[inline(always)]
     fn deliver(self, alloc: Global, number: usize) -> Result<Player, OutOfMemory>
         requires { number < length (sent self.past) }
         ensures { IfOk result (λ player. player ≡ delivers number self) }
     {
-        let message = self.message(number)?;
-        let node = message.to;
-        self.settle(number)
-            .happen(alloc, node, Event::Deliver(message))
+        self.settle(number).take_message(alloc, number)
     }
 
     /// The node whose turn it is ticks, and the turn goes on.

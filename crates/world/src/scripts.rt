@@ -7,7 +7,7 @@ ghost use Rattle.msg_wire.specs.Valid.{IsValidConfig};
 ghost use Rattle.world.specs.Playing.{history_of, play_fault, input_fault, message_fault, length_fault, entries_of};
 ghost use Rattle.world.specs.Players.{played_of};
 ghost use Rattle.world.specs.PlayErrors.{IsRefusal};
-ghost use Rattle.world.specs.Runs.{IsRun};
+ghost use Rattle.runs.specs.Runs.{IsRun};
 
 use crate::errors::PlayError;
 use crate::player::Player;

@@ -85,8 +85,9 @@ fn plays(
     let result = play(alloc, cfg, inputs);
     match result {
         Ok(history) => {
-            for entry in history.as_slice() {
-                say_entry(&mut words, entry)?;
+            for index in 0..history.len() {
+                let entry = history.get(index).expect(rt, "an entry");
+                say_entry(&mut words, &entry.to_entry(alloc)?)?;
             }
             assert_eq!(rt; want, Ok(words.as_str()));
         }

@@ -1,4 +1,4 @@
-use Rattle.world.specs.Names.nodes
+use Rattle.runs.specs.Names.nodes
 use Rattle.world.proofs.Lists.{one_more}
 use Rattle.world.proofs.cluster.push_clients.Goals as goal
 

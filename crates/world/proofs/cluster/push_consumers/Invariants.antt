@@ -1,6 +1,6 @@
 use Rattle.std.proofs.Common.{◌≡◌, ◌++◌, map}
 use Rattle.std.specs.List.{range_with_len}
-use Rattle.world.specs.Names.nodes
+use Rattle.runs.specs.Names.nodes
 use Rattle.world.proofs.cluster.push_consumers.Given as goal
 
 abbrev pub invariant-loop-number : goal.invariant-loop-number

@@ -3,7 +3,6 @@ use Rattle.std.specs.List.{slice_get, position_from}
 use Rattle.std.specs.Prelude.{not}
 use Rattle.std.proofs.lemmas.Option.{slice_get_read}
 use Rattle.world.specs.declared.outbox.Outbox.TheInside.{Inside}
-use Rattle.world.specs.Outboxes.{OutboxState}
 use Rattle.world.proofs.Flags.{first_open, none_open}
 use Rattle.world.proofs.outbox.Outbox.next_open.Goals as goal
 use Rattle.world.proofs.outbox.Outbox.next_open.Goals.{then-loop-self-test+else-index, else-loop-self-test, then-self-len, else-self-len}
@@ -12,7 +11,7 @@ pub returns-clause-open : goal.returns-clause-open
 returns-clause-open c =
     let flags = c.loop-self.self-inside.settled.items in
     let next = c.loop-self.self-inside.next in
-    let kept : flags ≡ c.args.self.now.settled = ap (λ (i : Inside). i.settled.items) c.loop-self.invariant.same ∙ ap (λ (o : OutboxState). o.settled) c.self.view_is in
+    let kept : flags ≡ c.args.self.now = ap (λ (i : Inside). i.settled.items) c.loop-self.invariant.same ∙ c.self.view_is in
     let same = ap (position_from not 0) kept in
     elim c.if-self-len.branch [
       | then-self-len w ↦

@@ -1,19 +1,23 @@
-use Rattle.std.proofs.Common.{refl, sym, subst}
-use Rattle.std.proofs.lemmas.Option.{slice_get_within, get_or_from_slice_get}
+use Rattle.std.proofs.Common.{◌≡◌, ℕ, ◌<◌, length, Option, Some, None, Result, refl, sym, ap, ◌∙◌}
+use Rattle.std.specs.Prelude.{IfOk}
+use Rattle.std.specs.List.{slice_get}
+use Rattle.std.specs.Option.{option_map_or}
+use Rattle.std.proofs.lemmas.Result.{IfOk-weaker}
 use Rattle.net_model.specs.Pasts.{sent}
-use Rattle.world.specs.Names.events
-use Rattle.world.specs.Players.{PlayerState, CanTake}
+use Rattle.runs.specs.Names.{Message}
+use Rattle.runs.specs.Names.events
+use Rattle.world.specs.Players.{PlayerState, happens, settles, delivers}
+use Rattle.world.proofs.Lists.{none_there}
 use Rattle.world.proofs.player.Player.deliver.Goals as goal
 
-pub happen-requires : goal.happen-requires
-happen-requires c =
-    let m = c.in_ok-message.message in
-    let here = c.in_ok-message.ensures.message in
-    let can : CanTake c.args.self.cfg c.args.self.past m.to (events.Deliver m) = record {
-      within = c.in_ok-message.ensures.within;
-      valid = c.in_ok-message.ensures.valid;
-      taken_there = tt;
-      comes = (refl, (c.args.number, slice_get_within (sent c.args.self.past) c.args.number m here, get_or_from_slice_get (sent c.args.self.past) c.args.number m m here));
-      command = tt;
-    } in
-    subst (λ (s : PlayerState). CanTake s.cfg s.past m.to (events.Deliver m)) (sym c.settle.ensures) can
+delivered : {E : Type 0} → (r : Result PlayerState E) (number : ℕ) (s t : PlayerState) (message : Option Message) → slice_get (sent s.past) number ≡ message → number < length (sent s.past) → t ≡ settles number s
+    → ((m : Message) → slice_get (sent t.past) number ≡ Some m → IfOk r (λ p. p ≡ happens m.to (events.Deliver m) t)) → IfOk r (λ p. p ≡ delivers number s)
+delivered r number s t None there within is made = absurd (none_there (sent s.past) number within there)
+delivered r number s t (Some m) there within is made =
+    let named : delivers number s ≡ happens m.to (events.Deliver m) (settles number s) =
+    ap (λ (o : Option Message). option_map_or (λ (x : Message). happens x.to (events.Deliver x) (settles number s)) o s) there in
+    IfOk-weaker r (λ p. p ≡ happens m.to (events.Deliver m) t) (λ p. p ≡ delivers number s) (λ p e. e ∙ ap (happens m.to (events.Deliver m)) is ∙ sym named)
+    (made m (ap (λ (k : PlayerState). slice_get (sent k.past) number) is ∙ there))
+
+pub returns : goal.returns
+returns c = delivered c.take_message.result c.args.number c.args.self c.settle.result (slice_get (sent c.args.self.past) c.args.number) refl c.requires c.settle.ensures c.take_message.ensures

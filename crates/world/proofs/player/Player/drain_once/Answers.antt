@@ -7,4 +7,4 @@ pub deliver-requires : goal.deliver-requires
 deliver-requires c =
     let i = c.deref_mut.result.now in
     let known : AreParts i = subst AreParts (sym c.deref_mut.ensures.value) c.self.invariant in
-    omega (arith, open_within i.outbox.settled c.in-Some.number (sym c.in-Some.ensures.open), known.played.flags)
+    omega (arith, open_within i.outbox c.in-Some.number (sym c.in-Some.ensures.open), known.played.flags)

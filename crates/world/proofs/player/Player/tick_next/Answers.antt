@@ -2,8 +2,8 @@ use Rattle.std.proofs.Common.{◌≡◌, ℕ, ◌+◌, ◌%◌, ◌<◌, List, S
 use Rattle.std.specs.List.{slice_get}
 use Rattle.std.proofs.lemmas.Option.{slice_get_read}
 use Rattle.msg_wire.specs.Nodes.{nodes_of}
-use Rattle.world.specs.Names.{NodeId}
-use Rattle.world.specs.Names.events
+use Rattle.runs.specs.Names.{NodeId}
+use Rattle.runs.specs.Names.events
 use Rattle.world.specs.Insides.{AreParts, shown_by}
 use Rattle.world.specs.Players.{PlayerState, CanTake}
 use Rattle.world.proofs.NodePlaces.{place-only}
