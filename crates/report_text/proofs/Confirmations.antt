@@ -4,9 +4,9 @@ use Rattle.std.specs.List.{range_with_len, filter_map, cons_option, slice_get, l
 use Rattle.std.specs.Option.{IsSome, option_map_or}
 use Rattle.std.specs.BTreeMap.{insert_entry}
 use Rattle.std.specs.Ordering.{nat_cmp}
-use Rattle.world.specs.Names.{Record, Mark}
-use Rattle.world.specs.Names.marks
-use Rattle.world.specs.Marks.{confirmation_in, confirmations}
+use Rattle.runs.specs.Names.{Record, Mark}
+use Rattle.runs.specs.Names.marks
+use Rattle.runs.specs.Marks.{confirmation_in, confirmations}
 use Rattle.report_text.specs.Positions.{records_at, end_confirmed, same_record, differ, log_line, line_of_position, log_lines, count_differing}
 use Rattle.report_text.specs.Confirming.{Confirmed, with_known, with_confirmed, with_mark, with_marks, confirmed_lines, differing}
 use Rattle.report_text.proofs.Keyed.{find, RisesFrom, RisesFrom-insert, find-insert, same_number, entry_for, entries_of_range, flat_map_for, count_by_for, flat_map_same, count_by_same, flipped}

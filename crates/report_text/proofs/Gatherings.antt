@@ -1,30 +1,29 @@
 -- The report of what was gathered from a history is the report of the history.
-use Rattle.std.proofs.Common.{◌≡◌, ℕ, zero, suc, ◌+◌, ◌≤◌, ◌==◌, false, List, [], ◌∷◌, ◌++◌, length, replicate, slice_get, slice_set, Some, None, refl, sym, ap, subst, ◌∙◌, fold, arith}
+use Rattle.std.proofs.Common.{◌≡◌, ℕ, zero, suc, ◌+◌, ◌≤◌, ◌==◌, false, List, [], ◌∷◌, ◌++◌, length, replicate, slice_get, slice_set, take, Some, None, refl, sym, ap, subst, ◌∙◌, fold, arith}
 use mathlib.Core.List.{reverse_aux}
 use Rattle.std.specs.List.{AllByRecursion, range_with_len, flat_map}
 use Rattle.std.specs.Option.{option_map_or}
 use Rattle.std.proofs.lemmas.Bool.Decides.{nat_tests}
 use Rattle.std.proofs.lemmas.List.{length-replicate, length-reverse}
-use Rattle.std.proofs.lemmas.List.Sums.{fold-append}
 use Rattle.std.proofs.lemmas.List.Folds.{fold_along}
 use Rattle.cut_core.specs.Agreements.{agreement_from}
 use Rattle.msg_wire.specs.Nodes.{same_node}
 use Rattle.msg_wire.specs.Steps.{AreValidMessages}
 use Rattle.net_model.specs.Pasts.{Past, past_of, sent, shown}
 use Rattle.node_rules.specs.Nodes.{first_window}
-use Rattle.world.specs.Names.{NodeId, Config, HistoryEntry}
-use Rattle.world.specs.Names.nodes
-use Rattle.world.specs.Marks.{confirmations}
+use Rattle.runs.specs.Names.{NodeId, Config, Message, Mark, HistoryEntry}
+use Rattle.runs.specs.Names.nodes
+use Rattle.runs.specs.Marks.{confirmations}
 use Rattle.report_text.specs.Slots.{slot_lines}
 use Rattle.report_text.specs.Positions.{log_lines, count_differing, differ_line}
 use Rattle.report_text.specs.Consumers.{lines_of_consumer, consumer_lines}
 use Rattle.report_text.specs.Clients.{lines_of_client, client_lines}
 use Rattle.report_text.specs.Report.{head_lines, report_of}
-use Rattle.report_text.specs.Telling.{with_message, with_messages, IsValidTold, told_lines}
-use Rattle.report_text.specs.Confirming.{with_mark, with_marks, confirmed_lines, differing}
+use Rattle.report_text.specs.Telling.{with_messages, IsValidTold, told_lines}
+use Rattle.report_text.specs.Confirming.{with_marks, confirmed_lines, differing}
 use Rattle.report_text.specs.Consuming.{Consumed, nothing_consumed, with_own_marks, consumed_lines}
 use Rattle.report_text.specs.Submitting.{Submitted, nothing_submitted, with_own_entry, submitted_lines}
-use Rattle.report_text.specs.Gathering.{Gathered, nothing_gathered, changed_at, consumers_after, clients_after, with_entry, gathered_of, numbered_lines, gathered_lines}
+use Rattle.report_text.specs.Gathering.{Gathered, before_entries, changed_at, consumers_after, clients_after, with_entry, gathered_of, numbered_lines, gathered_lines}
 use Rattle.report_text.proofs.Keyed.{itself}
 use Rattle.report_text.proofs.Tellings.{told_lines-is, valid-messages}
 use Rattle.report_text.proofs.Confirmations.{confirmed_lines-is, differing-is}
@@ -74,17 +73,13 @@ same_parts p q r s t u = cc
 -- ---- what was gathered from a past
 
 pub record IsGathered (cfg : Config) (past : Past) (g : Gathered) : Type 0 where
-  pub told : g.told ≡ with_messages [] (sent past)
-  pub confirmed : g.confirmed ≡ with_marks [] (shown past)
   pub consumers : Numbered (λ number. IsConsumed number past) 0 g.consumers
   pub consumer_count : length g.consumers ≡ cfg.consumers
   pub clients : Numbered (λ number. IsSubmitted (nodes.Client number) past) 0 g.clients
   pub client_count : length g.clients ≡ length cfg.homes
 
-IsGathered-none : (cfg : Config) → IsGathered cfg [] (nothing_gathered cfg)
-IsGathered-none cfg = record {
-  told = refl;
-  confirmed = refl;
+IsGathered-none : (cfg : Config) (messages : List Message) (marks : List Mark) → IsGathered cfg [] (before_entries cfg messages marks)
+IsGathered-none cfg messages marks = record {
   consumers = Numbered-replicate (λ number. IsConsumed number []) nothing_consumed (λ number. IsConsumed-none number) 0 cfg.consumers;
   consumer_count = length-replicate cfg.consumers nothing_consumed;
   clients = Numbered-replicate (λ number. IsSubmitted (nodes.Client number) []) nothing_submitted (λ number. IsSubmitted-none (nodes.Client number)) 0 (length cfg.homes);
@@ -128,8 +123,6 @@ client_count-after node e clients = refl
 
 IsGathered-more : (cfg : Config) (past : Past) (g : Gathered) (e : HistoryEntry) → IsGathered cfg past g → IsGathered cfg (e ∷ past) (with_entry g e)
 IsGathered-more cfg past g e h = record {
-  told = ap (λ told. with_messages told e.sends) h.told ∙ sym (fold-append with_message [] (sent past) e.sends);
-  confirmed = ap (λ confirmed. with_marks confirmed e.marks) h.confirmed ∙ sym (fold-append with_mark [] (shown past) e.marks);
   consumers = consumers-more past e e.node g.consumers refl h.consumers;
   consumer_count = consumer_count-after e.node e g.consumers ∙ h.consumer_count;
   clients = clients-more past e e.node g.clients refl h.clients;
@@ -138,6 +131,13 @@ IsGathered-more cfg past g e h = record {
 
 -- ---- a whole history
 
+-- one item more
+pub fold_next : {A B : Type 0} (f : B → A → B) (z : B) (xs : List A) (index : ℕ) → fold f z (take (suc index) xs) ≡ option_map_or (f (fold f z (take index xs))) (slice_get xs index) (fold f z (take index xs))
+fold_next f z [] zero = refl
+fold_next f z [] (suc index) = refl
+fold_next f z (x ∷ xs) zero = refl
+fold_next f z (x ∷ xs) (suc index) = fold_next f (f z x) xs index
+
 newest_first : (history : List HistoryEntry) (past : Past) → fold (λ past e. e ∷ past) past history ≡ reverse_aux history past
 newest_first [] past = refl
 newest_first (e ∷ history) past = newest_first history (e ∷ past)
@@ -145,7 +145,23 @@ newest_first (e ∷ history) past = newest_first history (e ∷ past)
 pub IsGathered-all : (cfg : Config) (history : List HistoryEntry) → IsGathered cfg (past_of history) (gathered_of cfg history)
 IsGathered-all cfg history =
     subst (λ past. IsGathered cfg past (gathered_of cfg history)) (newest_first history [])
-    (fold_along (λ past e. e ∷ past) with_entry (IsGathered cfg) (λ past g e h. IsGathered-more cfg past g e h) [] (nothing_gathered cfg) history (IsGathered-none cfg))
+    (fold_along (λ past e. e ∷ past) with_entry (IsGathered cfg) (λ past g e h. IsGathered-more cfg past g e h) []
+    (before_entries cfg (sent (past_of history)) (shown (past_of history))) history (IsGathered-none cfg (sent (past_of history)) (shown (past_of history))))
+
+-- entries leave what was told and confirmed as it is
+told-stays : (g : Gathered) (entries : List HistoryEntry) → (fold with_entry g entries).told ≡ g.told
+told-stays g [] = refl
+told-stays g (e ∷ entries) = told-stays (with_entry g e) entries
+
+confirmed-stays : (g : Gathered) (entries : List HistoryEntry) → (fold with_entry g entries).confirmed ≡ g.confirmed
+confirmed-stays g [] = refl
+confirmed-stays g (e ∷ entries) = confirmed-stays (with_entry g e) entries
+
+told-all : (cfg : Config) (history : List HistoryEntry) → (gathered_of cfg history).told ≡ with_messages [] (sent (past_of history))
+told-all cfg history = told-stays (before_entries cfg (sent (past_of history)) (shown (past_of history))) history
+
+confirmed-all : (cfg : Config) (history : List HistoryEntry) → (gathered_of cfg history).confirmed ≡ with_marks [] (shown (past_of history))
+confirmed-all cfg history = confirmed-stays (before_entries cfg (sent (past_of history)) (shown (past_of history))) history
 
 pub gathered_lines-is : (cfg : Config) (history : List HistoryEntry) → gathered_lines cfg (length history) (gathered_of cfg history) ≡ report_of cfg history
 gathered_lines-is cfg history =
@@ -153,18 +169,18 @@ gathered_lines-is cfg history =
     let g : Gathered = gathered_of cfg history in
     let h : IsGathered cfg past g = IsGathered-all cfg history in
     let told : told_lines (agreement_from (first_window cfg)) g.told ≡ slot_lines cfg (sent past) =
-    ap (told_lines (agreement_from (first_window cfg))) h.told ∙ told_lines-is cfg (sent past) in
-    let confirmed : confirmed_lines g.confirmed ≡ log_lines (confirmations (shown past)) = ap confirmed_lines h.confirmed ∙ confirmed_lines-is (shown past) in
+    ap (told_lines (agreement_from (first_window cfg))) (told-all cfg history) ∙ told_lines-is cfg (sent past) in
+    let confirmed : confirmed_lines g.confirmed ≡ log_lines (confirmations (shown past)) = ap confirmed_lines (confirmed-all cfg history) ∙ confirmed_lines-is (shown past) in
     let consumers : numbered_lines (consumed_lines cfg) 0 g.consumers ≡ consumer_lines cfg past =
     numbered_lines-is (consumed_lines cfg) (lines_of_consumer cfg past) 0 g.consumers (Numbered-weaker (λ number. IsConsumed number past) (λ number c. consumed_lines cfg number c ≡ lines_of_consumer cfg past number) 0 g.consumers (λ m c _ held. consumed_lines-is cfg past m c held) h.consumers)
     ∙ ap (λ count. flat_map (lines_of_consumer cfg past) (range_with_len 0 count)) h.consumer_count in
     let clients : numbered_lines submitted_lines 0 g.clients ≡ client_lines cfg past =
     numbered_lines-is submitted_lines (lines_of_client past) 0 g.clients (Numbered-weaker (λ number. IsSubmitted (nodes.Client number) past) (λ number c. submitted_lines number c ≡ lines_of_client past number) 0 g.clients (λ m c _ held. submitted_lines-is past m c held) h.clients)
     ∙ ap (λ count. flat_map (lines_of_client past) (range_with_len 0 count)) h.client_count in
-    let differ : differ_line (differing g.confirmed) ≡ differ_line (count_differing (confirmations (shown past))) = ap differ_line (ap differing h.confirmed ∙ differing-is (shown past)) in
+    let differ : differ_line (differing g.confirmed) ≡ differ_line (count_differing (confirmations (shown past))) = ap differ_line (ap differing (confirmed-all cfg history) ∙ differing-is (shown past)) in
     let head : head_lines (length history) ≡ head_lines (length past) = ap head_lines (sym (length-reverse history)) in
     same_parts head told confirmed consumers clients differ
 
 -- where each message is valid, each slot that was told has an entry that can be applied
 pub valid-told : (cfg : Config) (history : List HistoryEntry) → AreValidMessages (sent (past_of history)) → AllByRecursion IsValidTold (gathered_of cfg history).told
-valid-told cfg history h = rw (IsGathered-all cfg history).told (valid-messages [] (sent (past_of history)) h tt)
+valid-told cfg history h = rw (told-all cfg history) (valid-messages [] (sent (past_of history)) h tt)

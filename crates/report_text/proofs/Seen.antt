@@ -3,7 +3,7 @@ use Rattle.std.proofs.Common.{◌≡◌, ℕ, ◌||◌, Bool, true, false, cond,
 use Rattle.std.specs.Option.{is_some, option_map}
 use Rattle.std.specs.BTreeMap.{insert_entry}
 use Rattle.std.specs.Ordering.{nat_cmp}
-use Rattle.world.specs.Names.{Entry, Record}
+use Rattle.runs.specs.Names.{Entry, Record}
 use Rattle.report_text.specs.declared.positions.Confirmed.{Confirmed as Found}
 use Rattle.report_text.specs.Positions.{same_record}
 use Rattle.report_text.specs.Telling.{Told, with_told}

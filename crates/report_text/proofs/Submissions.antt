@@ -3,9 +3,9 @@ use Rattle.std.proofs.Common.{◌≡◌, ℕ, true, false, cond, [], ◌∷◌, 
 use Rattle.std.proofs.lemmas.List.Elements.{filter_map-append}
 use Rattle.msg_wire.specs.Nodes.{same_node}
 use Rattle.net_model.specs.Pasts.{Past, marks_of, marks_at, body_in, body_at, submissions_of}
-use Rattle.world.specs.Names.{NodeId, HistoryEntry}
-use Rattle.world.specs.Names.nodes
-use Rattle.world.specs.Marks.{acks, ack_in}
+use Rattle.runs.specs.Names.{NodeId, HistoryEntry}
+use Rattle.runs.specs.Names.nodes
+use Rattle.runs.specs.Marks.{acks, ack_in}
 use Rattle.report_text.specs.Clients.{lines_of_client}
 use Rattle.report_text.specs.Submitting.{Submitted, nothing_submitted, with_own_entry, submitted_lines}
 

@@ -5,8 +5,8 @@ use Rattle.cut_core.specs.declared.effects.Effect.TheVariants.{Covered, Opened}
 use Rattle.cut_core.specs.Agreements.{Agreement, is_last_round}
 use Rattle.cut_core.specs.Effects.{cut_effect, effect_where_fit, void_or, effect_of}
 use Rattle.cut_core.specs.Reasons.{fault_of}
-use Rattle.world.specs.Names.{Entry}
-use Rattle.world.specs.Names.entries
+use Rattle.runs.specs.Names.{Entry}
+use Rattle.runs.specs.Names.entries
 use Rattle.report_text.specs.Telling.{is_void_effect}
 
 fits : (a : Agreement) (entry : Entry) → is_void_effect (effect_where_fit a entry) ≡ false

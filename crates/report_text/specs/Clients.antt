@@ -2,9 +2,9 @@
 use Rattle.std.specs.Prelude.{ℕ, List, ◌++◌, length, flat_map, codes}
 use Rattle.std.specs.List.{range_with_len}
 use Rattle.net_model.specs.Pasts.{Past, marks_of, submissions_of}
-use Rattle.world.specs.Names.{Config}
-use Rattle.world.specs.Names.nodes
-use Rattle.world.specs.Marks.{acks}
+use Rattle.runs.specs.Names.{Config}
+use Rattle.runs.specs.Names.nodes
+use Rattle.runs.specs.Marks.{acks}
 use Rattle.report_text.specs.Lines.{counted, ended}
 
 unfoldable pub client_line : ℕ → ℕ → ℕ → List ℕ

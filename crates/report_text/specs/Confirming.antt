@@ -3,8 +3,8 @@ use Rattle.std.specs.Prelude.{ℕ, Bool, true, false, ◌||◌, if◌then◌else
 use Rattle.std.specs.Map.{lookup}
 use Rattle.std.specs.BTreeMap.{insert_entry, is_at}
 use Rattle.std.specs.Ordering.{nat_cmp}
-use Rattle.world.specs.Names.{Record, Mark}
-use Rattle.world.specs.Names.marks
+use Rattle.runs.specs.Names.{Record, Mark}
+use Rattle.runs.specs.Names.marks
 use Rattle.report_text.specs.Positions.{same_record, log_line}
 
 abbrev pub Confirmed : Type 0

@@ -2,11 +2,11 @@
 use Rattle.std.specs.Prelude.{ℕ, ◌+◌, ◌-◌, ◌==◌, ◌&&◌, Bool, false, not, if◌then◌else◌, List, [], ◌∷◌, ◌++◌, length, flat_map, codes}
 use Rattle.std.specs.List.{range_with_len, list_any}
 use Rattle.net_model.specs.Pasts.{Past, marks_of, marks_at}
-use Rattle.world.specs.Names.{NodeId, Config, Record, Mark}
-use Rattle.world.specs.Names.nodes
-use Rattle.world.specs.Names.marks
-use Rattle.world.specs.Marks.{confirmations, notices, outputs, after_mark, applied_by}
-use Rattle.world.specs.Outputs.{shown_after}
+use Rattle.runs.specs.Names.{NodeId, Config, Record, Mark}
+use Rattle.runs.specs.Names.nodes
+use Rattle.runs.specs.Names.marks
+use Rattle.runs.specs.Marks.{confirmations, notices, outputs, after_mark, applied_by}
+use Rattle.runs.specs.Outputs.{shown_after}
 use Rattle.report_text.specs.Lines.{counted, ended}
 
 -- ---- early confirmations

@@ -4,10 +4,10 @@ use Rattle.std.specs.Option.{option_map_or}
 use Rattle.std.specs.Map.{lookup}
 use Rattle.std.specs.BTreeMap.{insert_entry, is_at}
 use Rattle.std.specs.Ordering.{nat_cmp}
-use Rattle.world.specs.Names.{Config, Record, Mark}
-use Rattle.world.specs.Names.marks
-use Rattle.world.specs.Marks.{confirmations, notices, outputs, after_mark}
-use Rattle.world.specs.Outputs.{shown_after}
+use Rattle.runs.specs.Names.{Config, Record, Mark}
+use Rattle.runs.specs.Names.marks
+use Rattle.runs.specs.Marks.{confirmations, notices, outputs, after_mark}
+use Rattle.runs.specs.Outputs.{shown_after}
 use Rattle.report_text.specs.Lines.{counted, ended}
 use Rattle.report_text.specs.Consumers.{undone_in, consumer_line, notice_line, out_line, state_line}
 

@@ -1,10 +1,11 @@
--- A history, gathered entry by entry, and the report of what was gathered.
+-- A history, gathered from its messages, its marks and its entries, and the report of what was gathered.
 use Rattle.std.specs.Prelude.{ℕ, ◌+◌, List, [], ◌∷◌, ◌++◌, length, replicate, fold, slice_get, slice_set}
 use Rattle.std.specs.Option.{option_map_or}
 use Rattle.cut_core.specs.Agreements.{agreement_from}
 use Rattle.node_rules.specs.Nodes.{first_window}
-use Rattle.world.specs.Names.{NodeId, Config, HistoryEntry}
-use Rattle.world.specs.Names.nodes
+use Rattle.net_model.specs.Pasts.{past_of, sent, shown}
+use Rattle.runs.specs.Names.{NodeId, Config, Message, Mark, HistoryEntry}
+use Rattle.runs.specs.Names.nodes
 use Rattle.report_text.specs.Positions.{differ_line}
 use Rattle.report_text.specs.Report.{head_lines}
 use Rattle.report_text.specs.Telling.{Told, with_messages, told_lines}
@@ -19,10 +20,11 @@ pub record Gathered : Type 0 where
   pub consumers : List Consumed
   pub clients : List Submitted
 
-abbrev pub nothing_gathered : Config → Gathered
-nothing_gathered cfg = record {
-  told = [];
-  confirmed = [];
+-- all that messages told and marks confirmed, and nothing yet of any node
+abbrev pub before_entries : Config → List Message → List Mark → Gathered
+before_entries cfg messages marks = record {
+  told = with_messages [] messages;
+  confirmed = with_marks [] marks;
   consumers = replicate cfg.consumers nothing_consumed;
   clients = replicate (length cfg.homes) nothing_submitted;
 }
@@ -39,17 +41,15 @@ abbrev pub clients_after : NodeId → HistoryEntry → List Submitted → List S
 clients_after (nodes.Client number) e clients = changed_at (λ c. with_own_entry c e) clients number
 clients_after _ e clients = clients
 
--- one entry more
+-- one entry more: what its node showed and was given
 abbrev pub with_entry : Gathered → HistoryEntry → Gathered
-with_entry g e = record {
-  told = with_messages g.told e.sends;
-  confirmed = with_marks g.confirmed e.marks;
+with_entry g e = record g {
   consumers = consumers_after e.node e g.consumers;
   clients = clients_after e.node e g.clients;
 }
 
 abbrev pub gathered_of : Config → List HistoryEntry → Gathered
-gathered_of cfg history = fold with_entry (nothing_gathered cfg) history
+gathered_of cfg history = fold with_entry (before_entries cfg (sent (past_of history)) (shown (past_of history))) history
 
 -- ---- as text
 

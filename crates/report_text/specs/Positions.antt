@@ -2,8 +2,8 @@
 use Rattle.std.specs.Prelude.{ℕ, ◌+◌, ◌==◌, ◌&&◌, Bool, true, false, not, max, if◌then◌else◌, List, [], ◌∷◌, ◌++◌, fold, flat_map, filter_map, count_by, slice_get, bytes_eq, codes, Option, Some, None}
 use Rattle.std.specs.List.{range_with_len, list_any}
 use Rattle.std.specs.Option.{option_map_or}
-use Rattle.world.specs.Names.{Record}
-use Rattle.world.specs.Names.records
+use Rattle.runs.specs.Names.{Record}
+use Rattle.runs.specs.Names.records
 use Rattle.report_text.specs.Lines.{counted, ended}
 
 -- ---- what stands at a position, among confirmations in order

@@ -1,8 +1,8 @@
 -- The report of a history.
 use Rattle.std.specs.Prelude.{ℕ, List, ◌++◌, length, codes}
 use Rattle.net_model.specs.Pasts.{Past, past_of, sent, shown}
-use Rattle.world.specs.Names.{Config, HistoryEntry}
-use Rattle.world.specs.Marks.{confirmations}
+use Rattle.runs.specs.Names.{Config, HistoryEntry}
+use Rattle.runs.specs.Marks.{confirmations}
 use Rattle.report_text.specs.Lines.{counted, ended}
 use Rattle.report_text.specs.Slots.{slot_lines}
 use Rattle.report_text.specs.Positions.{log_lines, count_differing, differ_line}

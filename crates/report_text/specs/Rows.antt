@@ -1,12 +1,12 @@
 -- Two reports, worked out by hand.
 use Rattle.std.specs.Prelude.{◌≡◌, List, ℕ, [], ◌∷◌, ◌++◌, codes}
 use Rattle.node_rules.specs.Examples.{single, pair, two_rows, q0, s1p, c0, k0, five, seven, sent}
-use Rattle.world.specs.Names.{NodeId, Mark, HistoryEntry}
-use Rattle.world.specs.Names.entries
-use Rattle.world.specs.Names.records
-use Rattle.world.specs.Names.events
-use Rattle.world.specs.Names.marks
-use Rattle.world.specs.Names.whats
+use Rattle.runs.specs.Names.{NodeId, Mark, HistoryEntry}
+use Rattle.runs.specs.Names.entries
+use Rattle.runs.specs.Names.records
+use Rattle.runs.specs.Names.events
+use Rattle.runs.specs.Names.marks
+use Rattle.runs.specs.Names.whats
 use Rattle.report_text.specs.Report.{report_of}
 
 abbrev shows : NodeId → List Mark → HistoryEntry

@@ -4,10 +4,10 @@ use Rattle.std.specs.List.{range_with_len}
 use Rattle.std.specs.Option.{option_map_or, some_prefix}
 use Rattle.quota_table.specs.declared.rows.Row.{Row}
 use Rattle.cut_core.specs.Reasons.{fault_of}
-use Rattle.world.specs.Names.{Config, Entry, Message, What}
-use Rattle.world.specs.Names.entries
-use Rattle.world.specs.Names.whats
-use Rattle.world.specs.Known.{agreed_after}
+use Rattle.runs.specs.Names.{Config, Entry, Message, What}
+use Rattle.runs.specs.Names.entries
+use Rattle.runs.specs.Names.whats
+use Rattle.runs.specs.Known.{agreed_after}
 use Rattle.report_text.specs.Lines.{counted, ended}
 
 -- ---- what was told as decided

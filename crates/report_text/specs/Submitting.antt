@@ -1,8 +1,8 @@
 -- What one client's entries show, gathered in order.
 use Rattle.std.specs.Prelude.{ℕ, List, [], ◌++◌, length}
 use Rattle.net_model.specs.Pasts.{body_in}
-use Rattle.world.specs.Names.{HistoryEntry}
-use Rattle.world.specs.Marks.{acks}
+use Rattle.runs.specs.Names.{HistoryEntry}
+use Rattle.runs.specs.Marks.{acks}
 use Rattle.report_text.specs.Clients.{lines_of_acks}
 
 -- the bodies that it was given, and the numbers and positions of its acknowledgements

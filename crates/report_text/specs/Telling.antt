@@ -8,8 +8,8 @@ use Rattle.cut_core.specs.declared.effects.Effect.TheVariants as effects
 use Rattle.cut_core.specs.Agreements.{Agreement}
 use Rattle.cut_core.specs.Fold.{applied, HasValidTable}
 use Rattle.cut_core.specs.Reasons.{fault_of}
-use Rattle.world.specs.Names.{Entry, Message, What}
-use Rattle.world.specs.Names.whats
+use Rattle.runs.specs.Names.{Entry, Message, What}
+use Rattle.runs.specs.Names.whats
 use Rattle.report_text.specs.Lines.{ended}
 use Rattle.report_text.specs.Slots.{slot_line}
 

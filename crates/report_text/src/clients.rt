@@ -1,13 +1,13 @@
 //! What a client was given, and what it showed.
 
 ghost use Rattle.std.specs.Prelude.{◌≡◌, ◌++◌, OnOk};
-ghost use Rattle.world.specs.Marks.{acks};
+ghost use Rattle.runs.specs.Marks.{acks};
 ghost use Rattle.report_text.specs.Clients.{client_line, ack_line};
 ghost use Rattle.report_text.specs.Submitting.{nothing_submitted, with_own_entry, submitted_lines};
 
 use crate::text::put_counted;
-use msg_wire::{Event, Mark, Marks};
-use net_model::HistoryEntry;
+use msg_wire::Mark;
+use net_model::EntryRef;
 use quota_table::{Bytes, OutOfMemory};
 use record_codec::Body;
 use std::alloc::Global;
@@ -43,13 +43,13 @@ impl<'a> ClientMarks<'a> {
     }
 
     /// One more entry.
-    pub fn take(&mut self, entry: &'a HistoryEntry) -> Result<(), OutOfMemory>
+    pub fn take(&mut self, entry: &EntryRef<'a>) -> Result<(), OutOfMemory>
         ensures { OnOk result (self.new ≡ with_own_entry self.old entry.now) }
     {
-        if let Event::Submit { body, .. } = &entry.event {
+        if let Some(body) = entry.body() {
             self.submitted.push(body)?;
         }
-        put_acks(&mut self.acked, &entry.marks)
+        put_acks(&mut self.acked, entry.marks())
     }
 
     /// Puts its lines at the end.
@@ -65,10 +65,10 @@ impl<'a> ClientMarks<'a> {
 }
 
 /// Puts the acknowledgements among the marks at the end.
-fn put_acks(acked: &mut Vec<(u64, u64)>, marks: &Marks) -> Result<(), OutOfMemory>
+fn put_acks(acked: &mut Vec<(u64, u64)>, marks: &[Mark]) -> Result<(), OutOfMemory>
     ensures { OnOk result (acked.new.items ≡ acked.old.items ++ acks marks.now) }
 {
-    for mark in marks.as_slice() {
+    for mark in marks {
         if let Mark::Ack { number, position } = mark {
             acked.push((*number, *position))?;
         }

@@ -5,7 +5,7 @@ ghost use Rattle.report_text.specs.Consuming.{nothing_consumed, is_applied_befor
 
 use crate::by_number::ByNumber;
 use crate::consumer_lines::{Counts, put_counts, put_notices, put_output, put_state, shown_after};
-use msg_wire::{Config, Mark, Marks};
+use msg_wire::{Config, Mark};
 use quota_table::{Bytes, OutOfMemory};
 use record_codec::Record;
 use std::alloc::Global;
@@ -62,11 +62,11 @@ impl<'a> ConsumerMarks<'a> {
     }
 
     /// The marks of one more entry of the consumer of this number.
-    pub fn take_all(&mut self, number: u64, marks: &'a Marks) -> Result<(), OutOfMemory>
+    pub fn take_all(&mut self, number: u64, marks: &'a [Mark]) -> Result<(), OutOfMemory>
         ensures { OnOk result (self.new ≡ with_own_marks number self.old marks.now) }
     {
         let start = self.marks.len();
-        for mark in marks.as_slice() {
+        for mark in marks {
             self.take(number, start, mark)?;
         }
         Ok(())

@@ -1,6 +1,7 @@
 //! What a history shows, gathered in one pass.
 
-ghost use Rattle.std.specs.Prelude.{◌≡◌, ◌++◌, replicate, IfOk, OnOk};
+ghost use Rattle.std.specs.Prelude.{◌≡◌, ◌++◌, replicate, slice_get, IfOk, OnOk};
+ghost use Rattle.std.specs.Option.{option_map_or};
 ghost use Rattle.std.specs.List.{AllByRecursion};
 ghost use Rattle.msg_wire.specs.Valid.{IsValidConfig};
 ghost use Rattle.report_text.specs.Telling.{IsValidTold};
@@ -15,8 +16,8 @@ use crate::consumers::ConsumerMarks;
 use crate::positions::ConfirmedLog;
 use crate::slots::ToldSlots;
 use crate::text::put_counted;
-use msg_wire::{Config, Marks};
-use net_model::{History, HistoryEntry};
+use msg_wire::{Config, Mark};
+use net_model::{EntryRef, History};
 use quota_table::{Bytes, OutOfMemory};
 use spec_base::NodeId;
 use std::alloc::Global;
@@ -41,7 +42,8 @@ impl<'a> Model for Gathered<'a> {
     ghost view = { λ g. record { told = g.told; confirmed = g.confirmed; consumers = g.consumers.items; clients = g.clients.items } };
 }
 
-/// Gathers what a history shows: one pass over its entries, in time linear (times log) in its messages and marks.
+/// Gathers what a history shows: one pass over its messages, one over its marks and one over its entries, in time linear
+/// (times log) in them.
 pub fn gather<'a>(
     alloc: Global,
     cfg: &Config,
@@ -55,8 +57,10 @@ pub fn gather<'a>(
         consumers: consumers(alloc, cfg.consumers)?,
         clients: clients(alloc, cfg.homes.len())?,
     };
-    for entry in history.as_slice() {
-        gathered.take(entry)?;
+    gathered.told.take_all(history.messages())?;
+    gathered.confirmed.take_all(history.marks())?;
+    for index in 0..history.len() {
+        gathered.take_at(history, index)?;
     }
     Ok(gathered)
 }
@@ -82,14 +86,24 @@ fn clients<'a>(alloc: Global, count: usize) -> Result<Vec<ClientMarks<'a>>, OutO
 }
 
 impl<'a> Gathered<'a> {
-    /// One more entry.
-    fn take(&mut self, entry: &'a HistoryEntry) -> Result<(), OutOfMemory>
+    /// The entry at an index, where there is one.
+    fn take_at(&mut self, history: &'a History, index: usize) -> Result<(), OutOfMemory>
+        ensures { OnOk result (self.new ≡ option_map_or (with_entry self.old) (slice_get history.now index) self.old) }
+    {
+        match history.get(index) {
+            Some(entry) => self.take(&entry),
+            None => Ok(()),
+        }
+    }
+
+    /// One more entry: what its node showed and was given.
+    fn take(&mut self, entry: &EntryRef<'a>) -> Result<(), OutOfMemory>
         ensures { OnOk result (self.new ≡ with_entry self.old entry.now) }
     {
-        self.told.take_all(&entry.sends)?;
-        self.confirmed.take_all(&entry.marks)?;
-        match entry.node {
-            NodeId::Consumer(number) => { take_consumer(&mut self.consumers, number, &entry.marks) }
+        match entry.node() {
+            NodeId::Consumer(number) => {
+                take_consumer(&mut self.consumers, number, entry.marks())
+            }
             NodeId::Client(number) => take_client(&mut self.clients, usize::from(number), entry),
             _ => Ok(()),
         }
@@ -119,7 +133,7 @@ impl<'a> Gathered<'a> {
 fn take_consumer<'a>(
     consumers: &mut Vec<ConsumerMarks<'a>>,
     number: u8,
-    marks: &'a Marks,
+    marks: &'a [Mark],
 ) -> Result<(), OutOfMemory>
     ensures { OnOk result (consumers.new.items ≡ changed_at (λ c. with_own_marks number c marks.now) consumers.old.items number) }
 {
@@ -132,7 +146,7 @@ fn take_consumer<'a>(
 fn take_client<'a>(
     clients: &mut Vec<ClientMarks<'a>>,
     number: usize,
-    entry: &'a HistoryEntry,
+    entry: &EntryRef<'a>,
 ) -> Result<(), OutOfMemory>
     ensures { OnOk result (clients.new.items ≡ changed_at (λ c. with_own_entry c entry.now) clients.old.items number) }
 {

@@ -8,7 +8,7 @@ ghost use Rattle.report_text.specs.Confirming.{with_confirmed, with_marks, confi
 
 use crate::by_number::ByNumber;
 use crate::text::put_counted;
-use msg_wire::{Mark, Marks};
+use msg_wire::Mark;
 use quota_table::{Bytes, OutOfMemory};
 use record_codec::Record;
 use std::alloc::Global;
@@ -49,10 +49,10 @@ impl<'a> ConfirmedLog<'a> {
     }
 
     /// More marks were shown.
-    pub fn take_all(&mut self, marks: &'a Marks) -> Result<(), OutOfMemory>
+    pub fn take_all(&mut self, marks: &'a [Mark]) -> Result<(), OutOfMemory>
         ensures { OnOk result (self.new ≡ with_marks self.old marks.now) }
     {
-        for mark in marks.as_slice() {
+        for mark in marks {
             if let Mark::Confirm { position, rec } = mark {
                 self.take(*position, rec)?;
             }

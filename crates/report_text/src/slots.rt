@@ -13,7 +13,7 @@ use crate::by_number::ByNumber;
 use crate::text::put_counted;
 use cut_core::{Agreed, Effect};
 use fix_ante::first;
-use msg_wire::{Config, Messages, What};
+use msg_wire::{Config, Message, What};
 use quota_table::{Bytes, Entry, OutOfMemory, Row};
 use std::alloc::Global;
 use std::marker::Model;
@@ -44,10 +44,10 @@ impl<'a> ToldSlots<'a> {
     }
 
     /// More messages were sent.
-    pub fn take_all(&mut self, messages: &'a Messages) -> Result<(), OutOfMemory>
+    pub fn take_all(&mut self, messages: &'a [Message]) -> Result<(), OutOfMemory>
         ensures { OnOk result (self.new ≡ with_messages self.old messages.now) }
     {
-        for message in messages.as_slice() {
+        for message in messages {
             if let What::Decided { slot, entry, .. } = &message.what {
                 self.take(*slot, entry)?;
             }

@@ -1,6 +1,6 @@
 use Rattle.std.proofs.Common.{◌≡◌, ◌++◌, drop}
-use Rattle.world.specs.Marks.{acks}
+use Rattle.runs.specs.Marks.{acks}
 use Rattle.report_text.proofs.clients.put_acks.Given as goal
 
 abbrev pub invariant-loop-mark : goal.invariant-loop-mark
-invariant-loop-mark l = l.acked.items ++ acks (drop l.mark-index l.mark-items) ≡ l.fn.acked.items ++ acks l.mark-items
+invariant-loop-mark l = l.acked.items ++ acks (drop l.mark-index l.marks) ≡ l.fn.acked.items ++ acks l.marks

@@ -1,6 +1,6 @@
 use Rattle.std.proofs.Common.{map, Bor, sym, ap, ◌∙◌}
 use Rattle.std.proofs.lemmas.List.{take-map}
-use Rattle.world.specs.Names.{Record}
+use Rattle.runs.specs.Names.{Record}
 use Rattle.report_text.proofs.consumers.cut.Goals as goal
 
 pub returns-clause-log : goal.returns-clause-log

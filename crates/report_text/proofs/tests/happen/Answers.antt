@@ -2,7 +2,7 @@ use Rattle.std.proofs.Common.{List, [], ◌∷◌, ◌++◌, Result, Ok, Err, On
 use Rattle.std.proofs.lemmas.List.{reverse-append}
 use Rattle.msg_wire.specs.Steps.{AreValidMessages}
 use Rattle.net_model.specs.Pasts.{past_of, sent}
-use Rattle.world.specs.Names.{Message, HistoryEntry}
+use Rattle.runs.specs.Names.{Message, HistoryEntry}
 use Rattle.report_text.proofs.tests.happen.Goals as goal
 
 valid-both : (xs ys : List Message) → AreValidMessages xs → AreValidMessages ys → AreValidMessages (xs ++ ys)
