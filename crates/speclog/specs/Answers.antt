@@ -1,8 +1,9 @@
 -- What an answer of the program says.
-use Rattle.std.specs.Prelude.{◌≡◌, ◌↔◌, ℕ, ◌<◌, Bool, true, false, IsTrue, nat_eq, if◌then◌else◌, List, [], ◌∷◌, length, Option, Some, None, codes}
+use Rattle.std.specs.Prelude.{◌≡◌, ◌↔◌, ◌⊎◌, ℕ, ◌<◌, Bool, true, false, IsTrue, nat_eq, if◌then◌else◌, List, [], ◌∷◌, length, Option, Some, None, codes}
 use Rattle.std.specs.Cmp.Lexicographic.{pointwise}
 use Rattle.std.specs.Io.KnownBytes.{prepend_known, IsAtEnd}
-use Rattle.world.specs.Names.{HistoryEntry}
+use Rattle.spec_base.specs.Faults.{RoseByOne}
+use Rattle.runs.specs.Names.{HistoryEntry}
 use Rattle.speclog.specs.declared.fault.Fault.{Fault}
 use Rattle.speclog.specs.declared.fault.Fault.TheVariants.{Usage, ReadFault, InputTooLong, Script, NoMessage, TooLong as too_many_entries, OutOfMemory, WriteFault}
 use Rattle.speclog.specs.declared.input.ReadError.{ReadError}
@@ -55,6 +56,21 @@ is_of_whole_input (Some InputTooLong) = false
 is_of_whole_input (Some OutOfMemory) = false
 is_of_whole_input _ = true
 
+-- ---- counts of faults
+
+abbrev pub is_read_fault : Option Fault → Bool
+is_read_fault (Some ReadFault) = true
+is_read_fault _ = false
+
+abbrev pub is_write_fault : Option Fault → Bool
+is_write_fault (Some WriteFault) = true
+is_write_fault _ = false
+
+-- a count over a command: one more where the answer blames its object, and else as it was
+abbrev pub CountsBlame : Bool → ℕ → ℕ → Type 0
+CountsBlame true old new = RoseByOne old new
+CountsBlame false old new = new ≡ old
+
 -- ---- playing
 
 -- a script was played to its end: the statuses 0 and 5
@@ -62,6 +78,13 @@ abbrev pub is_played : Option Fault → Bool
 is_played None = true
 is_played (Some WriteFault) = true
 is_played _ = false
+
+-- nothing was asked of the sink: the statuses 2, 3 and 4
+abbrev pub is_unwritten : Option Fault → Bool
+is_unwritten None = false
+is_unwritten (Some WriteFault) = false
+is_unwritten (Some OutOfMemory) = false
+is_unwritten _ = true
 
 -- what the answer says of the lines: which one is refused, and why
 abbrev pub refusal_in : Option Fault → Option Fault
@@ -74,7 +97,7 @@ refusal_in _ = None
 
 -- what an answer says of the input, of which these bytes were read, and of the sink: too many bytes exactly where it says so;
 -- where it speaks of the whole input, all of them, with the first refused line exactly where it names one; at the statuses 0
--- and 5 the history that the text's script makes; and what was written
+-- and 5 the history that the text's script makes; and what was written, of which nothing is out before all was read
 pub record SpeaksOf (left_before left_after taken_before taken_after : Option (List ℕ)) (fault : Option Fault) (history : Option (List HistoryEntry)) : Type 0 where
   pub read : List ℕ
   pub given : left_before ≡ prepend_known read left_after
@@ -82,6 +105,7 @@ pub record SpeaksOf (left_before left_after taken_before taken_after : Option (L
   pub whole : IsTrue (is_of_whole_input fault) → IsAtEnd left_after
   pub refused : IsTrue (is_of_whole_input fault) → refusal_in fault ≡ refusal_of read
   pub written : Writes fault history read taken_before taken_after
+  pub begun : fault ≡ Some OutOfMemory → (taken_after ≡ taken_before) ⊎ IsAtEnd left_after
 
 -- an answer that can come once the input was read to its end
 abbrev pub is_after_reading : Option Fault → Bool

@@ -1,3 +1,4 @@
+-- What an attempt to write a text put out.
 use Rattle.std.specs.Prelude.{◌≡◌, ◌≤◌, ℕ, List, length, take, Option, Result, OnOk}
 use Rattle.std.specs.Io.KnownBytes.{append_known}
 use Rattle.spec_base.specs.declared.stop.Stop.{Stop}

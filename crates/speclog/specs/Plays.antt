@@ -3,9 +3,9 @@ use Rattle.std.specs.Prelude.{◌≡◌, ◌⊎◌, ℕ, List, take, Option, Som
 use Rattle.std.specs.Io.KnownBytes.{append_known}
 use Rattle.script_text.specs.Names.{Config, Input}
 use Rattle.script_text.specs.Scripts.{SpellsScript}
-use Rattle.world.specs.Names.{HistoryEntry}
+use Rattle.runs.specs.Names.{HistoryEntry}
 use Rattle.world.specs.Playing.{history_of, play_fault}
-use Rattle.world.specs.Runs.{IsRun}
+use Rattle.runs.specs.Runs.{IsRun}
 use Rattle.report_text.specs.Report.{report_of}
 use Rattle.speclog.specs.declared.fault.Fault.{Fault}
 use Rattle.speclog.specs.declared.fault.Fault.TheVariants.{OutOfMemory, WriteFault}

@@ -2,7 +2,7 @@
 
 ghost use Rattle.std.specs.Prelude.{◌≡◌, IsErrOf};
 ghost use Rattle.spec_base.specs.Faults.{Rose};
-ghost use Rattle.speclog.specs.Input.{HasRead};
+ghost use Rattle.speclog.specs.Input.{HasRead, CountsRead};
 
 use quota_table::{Bytes, OutOfMemory};
 use spec_base::{Source, Stop};
@@ -25,10 +25,12 @@ pub enum ReadError {
 }
 
 /// Reads a source to its end. `TooLong` comes exactly where more than 16,777,216 bytes were read, and `Failed` only
-/// where the source's count of faults rose.
+/// where the source's count of faults rose; at every other answer that count stands, so no call is made again after a
+/// failure.
 #[tactic(auto, using(spec_base::proofs::KnownBytes::given_more))]
 pub fn read_all<S: Source>(alloc: Global, source: &mut S) -> Result<Bytes, ReadError>
     ensures read { HasRead (S.left source.old) (S.left source.new) result }
+    ensures count { CountsRead (S.faults source.old) (S.faults source.new) result }
     ensures failed { IsErrOf result ReadError.Failed → Rose (S.faults source.old) (S.faults source.new) }
 {
     let mut bytes = Bytes::new(alloc);

@@ -8,9 +8,9 @@ ghost use Rattle.msg_wire.specs.Inputs.{IsInputOf};
 ghost use Rattle.msg_wire.specs.Steps.{AreValidMessages};
 ghost use Rattle.net_model.specs.Pasts.{past_of, sent};
 ghost use Rattle.script_text.specs.Reading.{script_in};
-ghost use Rattle.world.specs.Runs.{IsRun};
+ghost use Rattle.runs.specs.Runs.{IsRun};
 ghost use Rattle.world.specs.Playing.{history_of, play_fault};
-ghost use Rattle.speclog.specs.Answers.{status_of, is_played, is_of_whole_input, is_after_reading, refusal_in};
+ghost use Rattle.speclog.specs.Answers.{status_of, is_played, is_of_whole_input, is_after_reading, refusal_in, is_write_fault, is_unwritten, CountsBlame};
 ghost use Rattle.report_text.specs.Report.{report_of};
 ghost use Rattle.speclog.specs.Plays.{Plays, Writes};
 ghost use Rattle.speclog.specs.Refusals.{refusal_of, fault_of_play, at_line, Refuses, IsWithin};
@@ -38,6 +38,8 @@ pub fn play_text<K: Sink>(alloc: Global, text: &[u8], sink: &mut K) -> Outcome
 
     ensures after_reading { IsTrue (is_after_reading result.fault) }
     ensures refused { IsTrue (is_of_whole_input result.fault) → refusal_in result.fault ≡ refusal_of text.now }
+    ensures sink_count { CountsBlame (is_write_fault result.fault) (K.faults sink.old) (K.faults sink.new) }
+    ensures unwritten { IsTrue (is_unwritten result.fault) → sink.new ≡ sink.old }
     ensures write_fault { result.fault ≡ Some Fault.WriteFault → Rose (K.faults sink.old) (K.faults sink.new) }
     ensures written { Writes result.fault result.history text.now (K.taken sink.old) (K.taken sink.new) }
 {

@@ -5,24 +5,25 @@ ghost use Rattle.std.specs.Prelude.{◌≤◌};
 use crate::fault::Fault;
 use crate::outcome::Outcome;
 use crate::top::top;
-use quota_table::Bytes;
+use quota_table::{Bytes, OutOfMemory};
 use spec_base::{MemShelf, MemSink, MemSource};
+use std::alloc::Global;
 use std::sync::Wait;
 use std::test::Fail;
 use std::thread::Threads;
 
 mod faults;
 mod refusals;
-mod rows;
 
 /// The head of one sequencer, one shard, one client and one consumer, with a window of 2 rounds of one place.
 const HEAD: &str = "belfast 1\nseqs 1\nshards 1\nwindow 2 0:1\nclients 0\nconsumers 1 tally\n";
 
-const FIRST_RECORD: &str =
-    "belfast 1\nseqs 1\nshards 1\nwindow 2 0:1\nclients 0\nconsumers 1 tally\nsubmit 0 5\ndrain 100\n";
+/// A record that comes to its shard, and no further.
+const SCRIPT: &str =
+    "belfast 1\nseqs 1\nshards 1\nwindow 2 0:1\nclients 0\nconsumers 1 tally\nsubmit 0 5\ndrain 1\n";
 
-const FIRST_REPORT: &str =
-    "belfast 1\nentries 101\nslot 0 table 0 2 0:1\nslot 1 cut 0 0\nlog 0 c0 0 5\nconsumer k0 confirmed 1 applied 1 early 1 undone 0 notices 0\nout k0 5\nstate k0 sum 5 count 1\nclient c0 submitted 1 acked 1\nack c0 0 0\ndiffer 0\n";
+const REPORT: &str =
+    "belfast 1\nentries 2\nconsumer k0 confirmed 0 applied 0 early 0 undone 0 notices 0\nstate k0 sum 0 count 0\nclient c0 submitted 1 acked 0\ndiffer 0\n";
 
 /// What a call over memory answered, and what it wrote.
 #[derive(Drop)]
@@ -31,51 +32,71 @@ struct Played {
     written: Bytes,
 }
 
-/// `play` over memory, in pieces of at most `most` bytes, where these calls of the source and of the sink fail.
-fn play<R: AllocGlobal + Threads + Wait + Sync>(
+impl Played {
+    /// Whether it ended so, with these bytes written. A history is there where a part of its report may be.
+    fn is(&self, fault: Option<Fault>, status: u8, written: &[u8]) -> bool {
+        let has_history = status == 0 || status == 5;
+        self.outcome.fault == fault
+            && self.outcome.status == status
+            && self.outcome.history.is_some() == has_history
+            && self.written.as_slice() == written
+    }
+}
+
+fn words_of(alloc: Global, texts: &[&str]) -> Result<Vec<String>, OutOfMemory> {
+    let mut words = Vec::new(alloc);
+    for text in texts {
+        words.push(String::from_str(alloc, text)?)?;
+    }
+    Ok(words)
+}
+
+fn run<R: AllocGlobal + Threads + Wait + Sync>(
     rt: &R,
+    texts: &[&str],
+    source: &mut MemSource,
+    sink: &mut MemSink,
+) -> Result<Outcome, OutOfMemory> {
+    let words = words_of(rt.alloc(), texts)?;
+    let mut shelf = MemShelf::new(rt.alloc(), &[])?;
+    Ok(top(rt, words.as_slice(), source, sink, &mut shelf))
+}
+
+/// The command of these words over memory, in pieces of at most `most` bytes, where these calls of the source and of the sink fail.
+fn command<R: AllocGlobal + Threads + Wait + Sync>(
+    rt: &R,
+    texts: &[&str],
     text: &[u8],
     most: usize,
-    reads: &[u64],
-    writes: &[u64],
-) -> Result<Played, Fail>
+    fails: (&[u64], &[u64]),
+) -> Result<Played, OutOfMemory>
     requires { 1 ≤ most }
 {
     let alloc = rt.alloc();
-    let mut words = Vec::new(alloc);
-    words.push(String::from_str(alloc, "play")?)?;
+    let (reads, writes) = fails;
     let mut source = MemSource::new(alloc, text, most, reads)?;
     let mut sink = MemSink::new(alloc, most, writes)?;
-    let mut shelf = MemShelf::new(alloc, &[])?;
-    let outcome = top(rt, words.as_slice(), &mut source, &mut sink, &mut shelf);
+    let outcome = run(rt, texts, &mut source, &mut sink)?;
     let written = Bytes::from_slice(alloc, sink.taken())?;
     Ok(Played { outcome, written })
 }
 
-/// The fault of a text, at which nothing is written; None where it is played.
+/// The fault of a text that is read in pieces of at most `most` bytes, at which nothing is written; None where it is played.
 fn fault_of<R: AllocGlobal + Threads + Wait + Sync>(
     rt: &R,
     text: &[u8],
-) -> Result<Option<Fault>, Fail> {
-    fault_in_pieces(rt, text, 4096)
-}
-
-/// The same of a text that is read in pieces of at most `most` bytes.
-fn fault_in_pieces<R: AllocGlobal + Threads + Wait + Sync>(
-    rt: &R,
-    text: &[u8],
     most: usize,
-) -> Result<Option<Fault>, Fail>
+) -> Result<Option<Fault>, OutOfMemory>
     requires { 1 ≤ most }
 {
-    let played = play(rt, text, most, &[], &[])?;
+    let played = command(rt, &["play"], text, most, (&[], &[]))?;
     let silent = played.written.is_empty();
     Ok(played.outcome.fault.filter(|_fault| silent))
 }
 
 /// A text of two parts.
-fn joined<R: AllocGlobal>(rt: &R, head: &str, rest: &str) -> Result<Bytes, Fail> {
-    let mut text = Bytes::from_slice(rt.alloc(), head.as_bytes())?;
-    text.extend_from_slice(rest.as_bytes())?;
+fn joined(alloc: Global, head: &str, rest: &[u8]) -> Result<Bytes, OutOfMemory> {
+    let mut text = Bytes::from_slice(alloc, head.as_bytes())?;
+    text.extend_from_slice(rest)?;
     Ok(text)
 }

@@ -1,8 +1,8 @@
 //! The commands over a source, a sink and a shelf.
 
-ghost use Rattle.std.specs.Prelude.{◌≡◌, ℕ, List, false, [], Some, is_some, map, string_bytes};
+ghost use Rattle.std.specs.Prelude.{◌≡◌, ℕ, List, false, [], Some, is_some, IsSome, IsTrue, map, string_bytes};
 ghost use Rattle.spec_base.specs.Faults.{Rose};
-ghost use Rattle.speclog.specs.Answers.{status_of, usage_of, usage_place, is_played, fault_of_read, SpeaksOf};
+ghost use Rattle.speclog.specs.Answers.{status_of, usage_of, usage_place, is_played, fault_of_read, is_read_fault, is_write_fault, is_unwritten, CountsBlame, SpeaksOf};
 ghost use Rattle.speclog.specs.Completeness.{IsPlayed};
 
 use crate::fault::Fault;
@@ -18,8 +18,9 @@ use std::thread::Threads;
 /// Runs the command that the words name: so far `play` alone, which reads a script, plays it and writes its report.
 ///
 /// The answers come in the order of [`Fault`]'s statuses 2, 4, 3 and then 5; want of memory may come at any point.
-/// The shelf is left as it was. With a status other than 0 and 5 nothing is written, but that with 6 a part of the
-/// report may be out.
+/// The shelf is left as it was. At status 2 nothing is read. At the statuses 2, 3 and 4 the sink isn't asked to write; at 6
+/// a part of the report may be out, where the source was read to its end. The count of faults of the source rises by one at
+/// status 4 and that of the sink at 5; else both stand.
 pub fn top<R: AllocGlobal + Threads + Wait + Sync, S: Source, K: Sink, H: Shelf>(
     rt: &R,
     words: &[String],
@@ -34,6 +35,10 @@ pub fn top<R: AllocGlobal + Threads + Wait + Sync, S: Source, K: Sink, H: Shelf>
     ensures quiet { result.quiet ≡ false }
 
     ensures usage { usage_of result.fault ≡ usage_place (map string_bytes words.now) }
+    ensures unread { IsSome (usage_of result.fault) → source.new ≡ source.old }
+    ensures unwritten { IsTrue (is_unwritten result.fault) → sink.new ≡ sink.old }
+    ensures source_count { CountsBlame (is_read_fault result.fault) (S.faults source.old) (S.faults source.new) }
+    ensures sink_count { CountsBlame (is_write_fault result.fault) (K.faults sink.old) (K.faults sink.new) }
     ensures read_fault { result.fault ≡ Some Fault.ReadFault → Rose (S.faults source.old) (S.faults source.new) }
     ensures write_fault { result.fault ≡ Some Fault.WriteFault → Rose (K.faults sink.old) (K.faults sink.new) }
     ensures answer { SpeaksOf (S.left source.old) (S.left source.new) (K.taken sink.old) (K.taken sink.new) result.fault result.history }
@@ -56,6 +61,10 @@ pub fn top_play<S: Source, K: Sink>(
     ensures quiet { result.quiet ≡ false }
 
     ensures usage { usage_of result.fault ≡ usage_place (map string_bytes words.now) }
+    ensures unread { IsSome (usage_of result.fault) → source.new ≡ source.old }
+    ensures unwritten { IsTrue (is_unwritten result.fault) → sink.new ≡ sink.old }
+    ensures source_count { CountsBlame (is_read_fault result.fault) (S.faults source.old) (S.faults source.new) }
+    ensures sink_count { CountsBlame (is_write_fault result.fault) (K.faults sink.old) (K.faults sink.new) }
     ensures read_fault { result.fault ≡ Some Fault.ReadFault → Rose (S.faults source.old) (S.faults source.new) }
     ensures write_fault { result.fault ≡ Some Fault.WriteFault → Rose (K.faults sink.old) (K.faults sink.new) }
     ensures answer { SpeaksOf (S.left source.old) (S.left source.new) (K.taken sink.old) (K.taken sink.new) result.fault result.history }

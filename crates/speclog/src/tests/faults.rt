@@ -1,65 +1,70 @@
 //! Faults of the words, the source and the sink.
 
-use super::{FIRST_RECORD, FIRST_REPORT, play};
+use super::{REPORT, SCRIPT, command};
 use crate::fault::Fault;
-use crate::top::top;
-use spec_base::{MemShelf, MemSink, MemSource};
 use std::test::Fail;
 
-/// Reads of the first record's script by 10 bytes: nine give bytes, and one finds the end.
+/// Reads of the script by 10 bytes: nine give bytes, and one finds the end.
 const READS: u64 = 10;
+
+/// Writes of the report by 10 bytes.
+const WRITES: u64 = 15;
 
 #[test]
 fn names_a_source_that_fails(rt: HostRuntime) -> Result<(), Fail> {
+    let text = SCRIPT.as_bytes();
     for call in 0..READS + 2 {
-        let played = play(&rt, FIRST_RECORD.as_bytes(), 10, &[call], &[])?;
-        let fault = (call < READS).then_some(Fault::ReadFault);
-        assert_eq!(rt; played.outcome.fault, fault);
-        assert_eq!(rt; played.outcome.status, if call < READS { 4 } else { 0 });
-        assert_eq!(rt; played.written.is_empty(), call < READS);
+        let played = command(&rt, &["play"], text, 10, (&[call], &[]))?;
+        let is_named = if call < READS {
+            played.is(Some(Fault::ReadFault), 4, b"")
+        } else {
+            played.is(None, 0, REPORT.as_bytes())
+        };
+        assert!(rt; is_named, "call {call}");
     }
     Ok(())
 }
 
 #[test]
 fn names_a_sink_that_fails(rt: HostRuntime) -> Result<(), Fail> {
-    let report = FIRST_REPORT.as_bytes();
-    let writes = report.len().div_ceil(10);
-    for call in 0..writes {
-        let played = play(&rt, FIRST_RECORD.as_bytes(), 10, &[], &[call as u64])?;
-        assert_eq!(rt; played.outcome.fault, Some(Fault::WriteFault));
-        assert_eq!(rt; played.outcome.status, 5);
-        assert!(rt; played.outcome.history.is_some());
-        let (out, _) = report.split_at((10 * call).min(report.len()));
-        assert_eq!(rt; played.written.as_slice(), out);
+    let report = REPORT.as_bytes();
+    for call in 0..WRITES + 2 {
+        let played = command(&rt, &["play"], SCRIPT.as_bytes(), 10, (&[], &[call]))?;
+        let (out, _) = report.split_at((10 * call as usize).min(report.len()));
+        let is_named = if call < WRITES {
+            played.is(Some(Fault::WriteFault), 5, out)
+        } else {
+            played.is(None, 0, report)
+        };
+        assert!(rt; is_named, "call {call}");
     }
-    let played = play(&rt, FIRST_RECORD.as_bytes(), 10, &[], &[writes as u64])?;
-    assert_eq!(rt; played.outcome.status, 0);
-    assert_eq!(rt; played.written.as_slice(), report);
     Ok(())
 }
 
 #[test]
+fn plays_byte_by_byte(rt: HostRuntime) -> Result<(), Fail> {
+    let played = command(&rt, &["play"], SCRIPT.as_bytes(), 1, (&[], &[]))?;
+    assert!(rt; played.is(None, 0, REPORT.as_bytes()));
+    Ok(())
+}
+
+/// Words, and the place of the first that does not fit.
+const WORDS: [(&[&str], usize); 5] = [
+    (&["play", "x"], 1),
+    (&[], 0),
+    (&["run"], 0),
+    (&["gen", "7", "200"], 0),
+    (&["Play"], 0),
+];
+
+#[test]
 fn judges_words(rt: HostRuntime) -> Result<(), Fail> {
-    let rows: [(&[&str], usize); 5] = [
-        (&["play", "x"], 1),
-        (&[], 0),
-        (&["run"], 0),
-        (&["gen", "7", "200"], 0),
-        (&["Play"], 0),
-    ];
-    for (texts, place) in rows {
-        let mut words = Vec::new(rt.alloc());
-        for text in texts {
-            words.push(String::from_str(rt.alloc(), text)?)?;
-        }
-        let mut source = MemSource::new(rt.alloc(), FIRST_RECORD.as_bytes(), 4096, &[])?;
-        let mut sink = MemSink::new(rt.alloc(), 4096, &[])?;
-        let mut shelf = MemShelf::new(rt.alloc(), &[])?;
-        let outcome = top(&rt, words.as_slice(), &mut source, &mut sink, &mut shelf);
-        assert_eq!(rt; outcome.fault, Some(Fault::Usage { word: place }));
-        assert_eq!(rt; outcome.status, 2);
-        assert!(rt; sink.taken().is_empty());
+    for (words, word) in WORDS {
+        let played = command(&rt, words, SCRIPT.as_bytes(), 4096, (&[], &[]))?;
+        assert!(rt;
+            played.is(Some(Fault::Usage { word }), 2, b""),
+            "place {word}"
+        );
     }
     Ok(())
 }

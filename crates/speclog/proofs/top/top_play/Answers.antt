@@ -1,6 +1,10 @@
 use Rattle.std.proofs.Common.{◌∙◌, sym}
 use Rattle.speclog.proofs.Completing.{certainly-played}
+use Rattle.speclog.proofs.Usage.{usage-speaks}
 use Rattle.speclog.proofs.top.top_play.Goals as goal
+
+pub returns-in-Some-clause-answer : goal.returns-in-Some-clause-answer
+returns-in-Some-clause-answer g c = usage-speaks _ _ c.in-Some.word c.refused.result.fault c.refused.result.history c.refused.ensures.fault
 
 pub returns-in-Ok-clause-played : goal.returns-in-Ok-clause-played
 returns-in-Ok-clause-played g c text cfg given numbers words left size spelled accepted source sink =
