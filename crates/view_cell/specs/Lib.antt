@@ -1,0 +1,4 @@
+pub mod Looks
+pub mod Ends
+pub mod History
+pub mod Cell
