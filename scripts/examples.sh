@@ -4,6 +4,7 @@
 #   NAME.script with NAME.report   status 0, the report on standard output
 #   NAME.script with NAME.error    a refusal: nothing on standard output, that line on standard error;
 #                                  NAME.status has the status
+# NAME.words, where it is there, has the command's words, one a line, in place of `play`.
 cd "$(dirname "$0")/.." || exit 1
 folder=${1:-examples}
 passed=0
@@ -13,7 +14,9 @@ trap 'rm -f "$out" "$err"' EXIT
 for script in "$folder"/*.script; do
   [ -e "$script" ] || continue
   name=${script%.script}
-  ./speclog play <"$script" >"$out" 2>"$err"
+  words=(play)
+  [ -e "$name.words" ] && mapfile -t words <"$name.words"
+  ./speclog "${words[@]}" <"$script" >"$out" 2>"$err"
   status=$?
   if [ -e "$name.report" ]; then
     [ $status -eq 0 ] && cmp -s "$out" "$name.report" && [ ! -s "$err" ]

@@ -1,18 +1,32 @@
 #!/usr/bin/env python3
-"""Makes large scripts, plays them with the program as it is built, and prints times and memory.
+"""Makes large scripts, plays them with the program as it is built, and prints instructions, times, memory and page faults.
 
     scripts/performance.py PROGRAM [FOLDER]
 
-PROGRAM is crates/speclog/out/speclog after a build; the scripts are left in FOLDER where one is named. A time is the least
-of 21 runs, memory the greatest resident size of one run.
+PROGRAM is crates/speclog/out/speclog after a build; the scripts are left in FOLDER where one is named. Instructions are
+those that `valgrind --tool=callgrind` counts, the same at each run ('-' where valgrind is not here). A time is the least of
+21 runs, memory the greatest resident size of one run, faults the least minor page faults of one. Behind instructions and
+memory stands their ratio to those of a plain model of the same protocol without any proof (PLAIN), which were measured once
+with the same scripts.
 """
 import os
+import re
+import shutil
 import subprocess
 import sys
 import tempfile
 import time
 
 RUNS = 21
+# Of the plain model: millions of instructions, and the greatest resident size in MB.
+PLAIN = {
+    "idle": (89, 23),
+    "at_once": (128, 28),
+    "whole": (163, 35),
+    "tenth": (17.5, 5.4),
+    "restarts_k0": (182, 30),
+    "rollbacks": (114, 27),
+}
 LARGEST = ["belfast 1", "seqs 5", "shards 6", "window 16 0:4 1:4 2:4 3:4 4:4 5:4", "clients 0 1 2 3 4 5", "consumers 4 tally"]
 PLENTY = 400  # ticks and deliveries after each round of submissions: more than a round needs
 
@@ -71,7 +85,21 @@ def run(program, path):
         took = time.perf_counter() - begin
     if status != 0:
         sys.exit(f"{path}: status {status}")
-    return took, usage.ru_maxrss / 1024
+    return took, usage.ru_maxrss / 1024, usage.ru_minflt
+
+
+def instructions(program, path):
+    """Millions of instructions of one run, or None where valgrind is not here."""
+    if shutil.which("valgrind") is None:
+        return None
+    tool = ["valgrind", "--tool=callgrind", "--callgrind-out-file=/dev/null", program, "play"]
+    with open(path, "rb") as script:
+        told = subprocess.run(tool, stdin=script, stdout=subprocess.DEVNULL, stderr=subprocess.PIPE, check=True).stderr.decode()
+    return int(re.search(r"Collected : (\d+)", told).group(1)) / 1e6
+
+
+def ratio(figure, plain):
+    return f"({figure / plain:.2f})" if plain else ""
 
 
 def main():
@@ -82,15 +110,19 @@ def main():
         folder = sys.argv[2] if len(sys.argv) == 3 else made
         os.makedirs(folder, exist_ok=True)
         figures = {}
+        print(f"{'script':14} {'instructions':>20} {'time':>10} {'memory':>18} {'faults':>8}")
         for name, lines in scripts():
             path = os.path.join(folder, f"{name}.script")
             with open(path, "w", encoding="ascii") as script:
                 script.write("\n".join(lines) + "\n")
             runs = [run(program, path) for _ in range(RUNS)]
-            figures[name] = (min(took for took, _ in runs), max(size for _, size in runs))
-            took, size = figures[name]
-            print(f"{name:14} {took * 1000:7.1f} ms {size:7.1f} MB")
-        print(f"ten times the entries take {figures['whole'][0] / figures['tenth'][0]:.1f} times as long")
+            took, size = min(run[0] for run in runs), max(run[1] for run in runs)
+            counted = figures[name] = instructions(program, path)
+            plain = PLAIN.get(name, (None, None))
+            count = "-" if counted is None else f"{counted:.1f} M {ratio(counted, plain[0]):6}"
+            print(f"{name:14} {count:>20} {took * 1000:7.1f} ms {size:7.1f} MB {ratio(size, plain[1]):6} {min(run[2] for run in runs):8}")
+        if figures["whole"] is not None:
+            print(f"ten times the entries take {figures['whole'] / figures['tenth']:.2f} times the instructions")
 
 
 main()
