@@ -31,7 +31,8 @@ module _ {T : Type 0} (position : T → ℕ) where
   pub newest-empty : (p : ℕ) (old new : List T) (r : Option T) → old ≡ [] → new ≡ [] → r ≡ None → Newest p old new r
   newest-empty p old new r old_is new_is r_is = rw (r_is, new_is, old_is) (refl, tt)
 
-  pub newest-last : (p : ℕ) (old new xs : List T) (x y : T) (b : Bool) (r : Option T) → IsRising position old → old ≡ xs ++ x ∷ [] → b ≡ nat_le p (position x) → y ≡ x → r ≡ then_some b y → new ≡ (if b then xs else xs ++ y ∷ []) → Newest p old new r
+  pub newest-last : (p : ℕ) (old new xs : List T) (x y : T) (b : Bool) (r : Option T) → IsRising position old → old ≡ xs ++ x ∷ [] → b ≡ nat_le p (position x)
+      → y ≡ x → r ≡ then_some b y → new ≡ (if b then xs else xs ++ y ∷ []) → Newest p old new r
   newest-last p old new xs x y b r rising old_is test same r_is new_is =
       let front : IsRising position (xs ++ x ∷ []) = rw old_is at rising in
       elim b as (λ b. b ≡ nat_le p (position x) → r ≡ then_some b y → new ≡ (if b then xs else xs ++ y ∷ []) → Newest p old new r) [
@@ -42,7 +43,8 @@ module _ {T : Type 0} (position : T → ℕ) where
   pub oldest-empty : (p : ℕ) (old new : List T) (r : Option T) → old ≡ [] → new ≡ [] → r ≡ None → Oldest p old new r
   oldest-empty p old new r old_is new_is r_is = rw (r_is, new_is, old_is) (refl, refl, refl)
 
-  pub oldest-first : (p : ℕ) (old new xs : List T) (x y : T) (b : Bool) (r : Option T) → IsRising position old → old ≡ x ∷ xs → b ≡ nat_lt (position x) p → y ≡ x → r ≡ then_some b y → new ≡ (if b then xs else y ∷ xs) → Oldest p old new r
+  pub oldest-first : (p : ℕ) (old new xs : List T) (x y : T) (b : Bool) (r : Option T) → IsRising position old → old ≡ x ∷ xs → b ≡ nat_lt (position x) p
+      → y ≡ x → r ≡ then_some b y → new ≡ (if b then xs else y ∷ xs) → Oldest p old new r
   oldest-first p old new xs x y b r rising old_is test same r_is new_is =
       let all : IsRising position (x ∷ xs) = rw old_is at rising in
       elim b as (λ b. b ≡ nat_lt (position x) p → r ≡ then_some b y → new ≡ (if b then xs else y ∷ xs) → Oldest p old new r) [

@@ -110,12 +110,14 @@ pub get-pairs : (ps : List (List ℕ × List ℕ)) (q : List ℕ) → finite.get
 get-pairs ps q = finite.get-from_entries nat_list_cmp_total ps q
 
 -- the map once the entries of a key are dropped
-pub map-without : (k : List ℕ) (es : List KvEntry) → finite.from_entries {R = slice_cmp nat_cmp} (pairs_of (without k es)) ≡ finite.remove (finite.from_entries (pairs_of es)) k
+pub map-without : (k : List ℕ) (es : List KvEntry)
+    → finite.from_entries {R = slice_cmp nat_cmp} (pairs_of (without k es)) ≡ finite.remove (finite.from_entries (pairs_of es)) k
 map-without k es =
     same_store _ _ (λ q. get-pairs (pairs_of (without k es)) q ∙ (find-without k q es ∙ sym (finite.get-remove nat_list_cmp_total (finite.from_entries (pairs_of es)) k q ∙ ap (cond (same q k) None) (get-pairs (pairs_of es) q))))
 
 -- the map once an entry with a new key is there
-pub map-push : (es : List KvEntry) (x : KvEntry) → keyed_find x.key (pairs_of es) ≡ None → finite.from_entries {R = slice_cmp nat_cmp} (pairs_of (es ++ x ∷ [])) ≡ finite.insert (finite.from_entries (pairs_of es)) x.key x.value
+pub map-push : (es : List KvEntry) (x : KvEntry) → keyed_find x.key (pairs_of es) ≡ None
+    → finite.from_entries {R = slice_cmp nat_cmp} (pairs_of (es ++ x ∷ [])) ≡ finite.insert (finite.from_entries (pairs_of es)) x.key x.value
 map-push es x none = rw (pairs-push es x) (finite.from_entries_push nat_list_cmp_total (finite.slice_cmp-IsAntisymmetric finite.nat_cmp-IsAntisymmetric) (pairs_of es) x.key x.value none)
 
 -- as many keys as entries
@@ -139,7 +141,8 @@ pub len-removed : (m : KvState) (k : List ℕ) → finite.len (finite.remove m k
 len-removed m k = finite.len-remove nat_list_cmp_total m k
 
 -- a key that has again what it had
-given_back : (m n : KvState) (k v : List ℕ) → finite.get m k ≡ Some v → ((q : List ℕ) → same q k ≡ false → finite.get n q ≡ finite.get m q) → finite.insert n k v ≡ m
+given_back : (m n : KvState) (k v : List ℕ) → finite.get m k ≡ Some v → ((q : List ℕ) → same q k ≡ false → finite.get n q ≡ finite.get m q)
+    → finite.insert n k v ≡ m
 given_back m n k v had others =
     same_store _ _ (λ q. finite.get-insert nat_list_cmp_total n k v q ∙ elim (same q k) as (λ b. same q k ≡ b → cond b (Some v) (finite.get n q) ≡ finite.get m q) [
       | true ↦ λ e. sym had ∙ ap (finite.get m) (sym (same_tells q k e))

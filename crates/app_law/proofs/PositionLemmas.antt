@@ -1,6 +1,7 @@
 -- Items at rising positions, parted at a position: what one item more or less at an end does to both parts.
-use Rattle.std.proofs.Common.{◌≡◌, ℕ, ◌<◌, ◌≤◌, nat_lt, nat_le, Bool, true, false, cond, List, [], ◌∷◌, ◌++◌, refl, ap, ◌∙◌, arith}
+use Rattle.std.proofs.Common.{◌≡◌, ℕ, ◌<◌, ◌≤◌, nat_lt, nat_le, Bool, true, false, cond, List, [], ◌∷◌, ◌++◌, length, refl, ap, ◌∙◌, inl, inr, arith}
 use Rattle.std.specs.List.{AllByRecursion}
+use Rattle.std.proofs.lemmas.Bool.{cases_lt}
 use Rattle.std.proofs.lemmas.Bool.Decides.{nat_tests}
 use Rattle.app_law.specs.Positions.{below, from_on, IsRising, IsPast}
 
@@ -35,7 +36,8 @@ module _ {T : Type 0} (position : T → ℕ) where
   from_on-past p (x ∷ items) h = rw ((lt_test (position x) p h.0).1) (from_on-past p items h.1)
 
   -- where all items stand past one that is at a position or past it
-  pub all_above : (p q : ℕ) (items : List T) → p ≤ q → AllByRecursion (λ y. q < position y) items → (below position p items ≡ []) × (from_on position p items ≡ items)
+  pub all_above : (p q : ℕ) (items : List T) → p ≤ q → AllByRecursion (λ y. q < position y) items
+      → (below position p items ≡ []) × (from_on position p items ≡ items)
   all_above p q [] h past = (refl, refl)
   all_above p q (x ∷ items) h past =
       let here : p ≤ position x = omega (arith, past.0) in
@@ -55,6 +57,17 @@ module _ {T : Type 0} (position : T → ℕ) where
 
   pub from_on-first : (p : ℕ) (x : T) (items : List T) → position x < p → from_on position p (x ∷ items) ≡ from_on position p items
   from_on-first p x items h = rw ((lt_test (position x) p h).1) refl
+
+  -- where no item stands below a position, all stand from it on
+  pub from_on-all : (p : ℕ) (items : List T) → length (below position p items) ≡ 0 → from_on position p items ≡ items
+  from_on-all p [] none = refl
+  from_on-all p (x ∷ items) none =
+      elim (cases_lt (position x) p) [
+        | inl under ↦ absurd (let first = ap length (below-first p x items under) in omega arith)
+        | inr over ↦
+            let test = le_test (position x) p over in
+            rw test.1 (ap (λ rest. x ∷ rest) (from_on-all p items (rw test.0 at none)))
+      ]
 
   all_front : (Q : T → Type 0) (xs : List T) (x : T) → AllByRecursion Q (xs ++ x ∷ []) → AllByRecursion Q xs × Q x
   all_front Q [] x h = (tt, h.0)

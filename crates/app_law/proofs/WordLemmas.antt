@@ -9,7 +9,8 @@ use Rattle.app_law.specs.Words.{words, put_first}
 abbrev space_of : List ℕ → ℕ
 space_of text = position_or_len (λ c. c == 32) text
 
-put_first-at : (c n : ℕ) (cs : List ℕ) (ws : List (List ℕ)) → ws ≡ take n cs ∷ words (drop (n + 1) cs) → put_first c ws ≡ take (1 + n) (c ∷ cs) ∷ words (drop (1 + n + 1) (c ∷ cs))
+put_first-at : (c n : ℕ) (cs : List ℕ) (ws : List (List ℕ)) → ws ≡ take n cs ∷ words (drop (n + 1) cs)
+    → put_first c ws ≡ take (1 + n) (c ∷ cs) ∷ words (drop (1 + n + 1) (c ∷ cs))
 put_first-at c n cs ws e = ap (put_first c) e ∙ grind (arith, common_steps)
 
 -- the first word ends at the first space
@@ -31,7 +32,8 @@ words-no_space (c ∷ cs) h =
     ] h
 
 -- the words of a text whose first space is there
-pub words-space : (text : List ℕ) (at : ℕ) → position (λ c. c == 32) text ≡ Some at → words text ≡ take at text ∷ words (take (length text - (at + 1)) (drop (at + 1) text))
+pub words-space : (text : List ℕ) (at : ℕ) → position (λ c. c == 32) text ≡ Some at
+    → words text ≡ take at text ∷ words (take (length text - (at + 1)) (drop (at + 1) text))
 words-space text at e =
     let here : (space_of text ≡ at) × (space_of text < length text) = grind (arith, nat_tests) in
     let over : take (length text - (at + 1)) (drop (at + 1) text) ≡ drop (at + 1) text = grind (arith, common_steps) in

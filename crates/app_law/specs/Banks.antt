@@ -7,7 +7,7 @@ use Rattle.record_codec.specs.declared.record.Record.{Record}
 use Rattle.record_codec.specs.declared.record.Record.TheVariants.{Data, Noop}
 use Rattle.app_law.specs.declared.bank_order.BankOrder.{BankOrder}
 use Rattle.app_law.specs.declared.bank_order.BankOrder.TheVariants.{Deposit, Move}
-use Rattle.app_law.specs.Decimals.{number_in}
+use Rattle.record_codec.specs.Decimals.{number_in}
 use Rattle.app_law.specs.Words.{words}
 
 -- an account: one digit from 0 to 7

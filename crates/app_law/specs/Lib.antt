@@ -1,6 +1,5 @@
 pub mod AnyApps
 pub mod Banks
-pub mod Decimals
 pub mod Folds
 pub mod KvEntries
 pub mod KvOrders

@@ -3,7 +3,7 @@ use Rattle.std.specs.Prelude.{ℕ, ◌+◌, ◌-◌, ◌^◌, min, Bool, ◌&&�
 use Rattle.std.specs.Str.Parse.{digits_value}
 use Rattle.record_codec.specs.declared.record.Record.{Record}
 use Rattle.record_codec.specs.declared.record.Record.TheVariants.{Data, Noop}
-use Rattle.app_law.specs.Decimals.{is_decimal}
+use Rattle.record_codec.specs.Decimals.{is_decimal}
 
 -- the sum of the numbers added so far, and how many they are
 pub record TallyState : Type 0 where

@@ -47,6 +47,7 @@ impl App for AnyApp {
         }
     }
 
+    #[inline(always)]
     fn apply(&mut self, rec: &Record) -> (AnyUndo, Output) {
         match self {
             AnyApp::Tally(tally) => {

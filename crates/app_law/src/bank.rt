@@ -38,6 +38,12 @@ impl App for Bank {
     ghost use Rattle.std.specs.Prelude.{refl, replicate};
     ghost use Rattle.app_law.specs.Banks.{bank_next, bank_output, bank_shown};
 
+    ghost restored = { λ undo _. undo };
+
+    ghost noop_leaves = { λ _. refl };
+
+    ghost noop_gives = { λ _. refl };
+
     ghost fresh_state = { λ _. replicate 8 0 };
 
     ghost next_state = { bank_next };
@@ -45,12 +51,6 @@ impl App for Bank {
     ghost output_of = { bank_output };
 
     ghost shown_of = { bank_shown };
-
-    ghost restored = { λ undo _. undo };
-
-    ghost noop_leaves = { λ _. refl };
-
-    ghost noop_gives = { λ _. refl };
 
     fn fresh(_: AppKind) -> Bank {
         Bank { balances: [0; 8] }

@@ -2,8 +2,8 @@ ghost use Rattle.std.specs.Prelude.{◌≡◌, ◌∷◌, ◌<◌, [], IfSome};
 ghost use Rattle.app_law.specs.Banks.{IsOrder, account_in, bank_order_of};
 ghost use Rattle.app_law.specs.Words.{words};
 
-use crate::decimal::number;
 use crate::words::first_word;
+use record_codec::decimal::number;
 
 /// The most digits of an amount.
 const MOST_DIGITS: usize = 12;

@@ -1,27 +1,7 @@
-ghost use Rattle.std.specs.Prelude.{◌≡◌, ◌+◌, ◌++◌, ◌≤◌, ◌<◌, ◌^◌, length, decimal, IfSome};
-ghost use Rattle.app_law.specs.Decimals.{number_in};
+ghost use Rattle.std.specs.Prelude.{◌≡◌, ◌+◌, ◌++◌, ◌≤◌, length, decimal};
 
 use itoa::Buffer;
 use record_codec::ShortText;
-
-/// The number that a decimal of 1 to `most` digits spells; None for any other text.
-pub fn number(most: usize, text: &[u8]) -> Option<u64>
-    requires { most ≤ 12 }
-    ensures number { result ≡ number_in most text.now }
-    ensures below { IfSome result (λ n. n < 10 ^ 12) }
-{
-    if text.is_empty() || text.len() > most {
-        return None;
-    }
-    let mut value: u64 = 0;
-    for digit in text {
-        if !digit.is_ascii_digit() {
-            return None;
-        }
-        value = value * 10 + u64::from(*digit - b'0');
-    }
-    Some(value)
-}
 
 /// Puts a number's decimal at the end.
 pub fn write_decimal<const N: usize>(number: u64, into: &mut ShortText<N>)

@@ -3,7 +3,8 @@ ghost use Rattle.std.specs.Str.Parse.{digits_value};
 ghost use Rattle.app_law.specs.Tallies.{is_added, added_to};
 
 use crate::app::App;
-use crate::decimal::{number, write_decimal};
+use crate::decimal::write_decimal;
+use record_codec::decimal::number;
 use record_codec::{AppKind, Output, Record, Shown};
 use std::marker::Model;
 

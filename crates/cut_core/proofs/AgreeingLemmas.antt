@@ -6,7 +6,7 @@ use Rattle.std.proofs.lemmas.Option.{slice_get_within, slice_get_cases}
 use Rattle.quota_table.specs.declared.entry.Entry.{Entry}
 use Rattle.quota_table.specs.declared.entry.Entry.TheVariants.{Nothing, Cut, Table, Remove}
 use Rattle.fix_ante.specs.declared.spots.Owner.{Owner}
-use Rattle.fix_ante.specs.Windows.{Window, has_row, next_of}
+use Rattle.fix_ante.specs.Windows.{Window, has_row, window_after}
 use Rattle.fix_ante.specs.Layout.{round_of, layout_of}
 use Rattle.fix_ante.proofs.Entries.{slice_get-append_left}
 use Rattle.cut_core.specs.declared.effects.Reason.{Reason}
@@ -16,7 +16,7 @@ use Rattle.cut_core.specs.Reasons.{grant_fault, granted_fault, fault_of}
 use Rattle.cut_core.specs.Fold.{with_round, open_granted, after_cut, after_entry, unless_void, applied, applied_all, HasValidTable}
 use Rattle.cut_core.specs.Effects.{effect_where_fit, void_or, effect_of}
 use Rattle.cut_core.specs.Map.{map_of, mapped, located}
-use Rattle.cut_core.specs.Agreeing.{IsBelowFirst, IsBelowFirsts}
+use Rattle.cut_core.specs.MapsAgree.{IsBelowFirst, IsBelowFirsts}
 use Rattle.cut_core.specs.Soundness.{IsSound}
 use Rattle.cut_core.proofs.Sound.{no_fault, IsSound-applied}
 use Rattle.cut_core.proofs.Maps.{map-round, map-opened, map-table, map-remove}
@@ -40,7 +40,8 @@ grown_fit a (Cut window round) =
 grown_fit a (Table after rounds rows) = ([], sym (append-nil a.covered))
 grown_fit a (Remove window shard) = ([], sym (append-nil a.covered))
 
-grown : (a : Agreement) (entry : Entry) (fault : Option Reason) → (more : List Owner) × ((unless_void fault a (after_entry a entry)).covered ≡ a.covered ++ more)
+grown : (a : Agreement) (entry : Entry) (fault : Option Reason)
+    → (more : List Owner) × ((unless_void fault a (after_entry a entry)).covered ≡ a.covered ++ more)
 grown a entry None = grown_fit a entry
 grown a entry (Some reason) = ([], sym (append-nil a.covered))
 
@@ -49,7 +50,8 @@ pub covered-applied : (a : Agreement) (entry : Entry) → (more : List Owner) ×
 covered-applied a entry = grown a entry (fault_of a entry)
 
 -- a covered position stays covered, by its owner
-pub located-applied_all : (a : Agreement) (entries : List Entry) (p : ℕ) → p < length a.covered → (p < length (applied_all a entries).covered) × (located (applied_all a entries) p ≡ located a p)
+pub located-applied_all : (a : Agreement) (entries : List Entry) (p : ℕ) → p < length a.covered
+    → (p < length (applied_all a entries).covered) × (located (applied_all a entries) p ≡ located a p)
 located-applied_all a [] p h = (h, refl)
 located-applied_all a (entry ∷ entries) p h =
     let more = covered-applied a entry in
@@ -63,7 +65,8 @@ none_granted : (g : Option Window) (later : Option Reason) → granted_fault g l
 none_granted None later e = refl
 none_granted (Some w) later e = absurd (cc)
 
-agree_opened : (a : Agreement) (g : Option Window) (p : ℕ) → is_last_round a ≡ true → grant_fault (is_last_round a) g ≡ None → a.granted ≡ g → mapped (open_granted (with_round a) g) p ≡ mapped a p
+agree_opened : (a : Agreement) (g : Option Window) (p : ℕ) → is_last_round a ≡ true → grant_fault (is_last_round a) g ≡ None → a.granted ≡ g
+    → mapped (open_granted (with_round a) g) p ≡ mapped a p
 agree_opened a None p last fits is = absurd (both_ways _ ((no_fault (is_last_round a) NoGrant None fits).0) last)
 agree_opened a (Some w) p last fits is = ap (λ xs. slice_get xs p) (map-opened a w (eqb-true (a.rounds + 1) a.current.rounds last) is)
 
@@ -75,7 +78,8 @@ agree_cut a p is fits =
       | inr more ↦ ap at (cond-false (is_last_round a) (open_granted (with_round a) a.granted) (with_round a) more) ∙ ap (λ xs. slice_get xs p) (map-round a is.short)
     ]
 
-agree_fit : (a : Agreement) (entry : Entry) (p : ℕ) → IsSound a → fault_of a entry ≡ None → p < length (map_of a) → IsBelowFirst (effect_where_fit a entry) p → mapped (after_entry a entry) p ≡ mapped a p
+agree_fit : (a : Agreement) (entry : Entry) (p : ℕ) → IsSound a → fault_of a entry ≡ None → p < length (map_of a) → IsBelowFirst (effect_where_fit a entry) p
+    → mapped (after_entry a entry) p ≡ mapped a p
 agree_fit a Nothing p is fits within below = refl
 agree_fit a (Cut window round) p is fits within below =
     let named = no_fault (not (window == a.current.number)) (WrongWindow a.current.number) _ fits in
@@ -83,19 +87,21 @@ agree_fit a (Cut window round) p is fits within below =
     agree_cut a p is next.1
 agree_fit a (Table after rounds rows) p is fits within below =
     let named = no_fault (not (after == a.current.number)) (WrongWindow a.current.number) _ fits in
-    let w = next_of a.current (a.slots + 1) rounds rows in
+    let w = window_after a.current (a.slots + 1) rounds rows in
     ap (λ xs. slice_get xs p) (map-table a rounds w (none_granted a.granted _ named.1)) ∙ slice_get-append_left (map_of a) (layout_of w) p within
 agree_fit a (Remove window shard) p is fits within below =
     let named = no_fault (not (window == a.current.number)) (WrongWindow a.current.number) _ fits in
     let row = no_fault (not (has_row shard a.current.spots)) (NotARow shard) _ named.1 in
     map-remove a shard p is (not-false (has_row shard a.current.spots) row.0) below
 
-agree_entry : (a : Agreement) (entry : Entry) (fault : Option Reason) (p : ℕ) → IsSound a → fault_of a entry ≡ fault → p < length (map_of a) → IsBelowFirst (void_or fault (effect_where_fit a entry)) p → mapped (unless_void fault a (after_entry a entry)) p ≡ mapped a p
+agree_entry : (a : Agreement) (entry : Entry) (fault : Option Reason) (p : ℕ) → IsSound a → fault_of a entry ≡ fault → p < length (map_of a)
+    → IsBelowFirst (void_or fault (effect_where_fit a entry)) p → mapped (unless_void fault a (after_entry a entry)) p ≡ mapped a p
 agree_entry a entry None p is e within below = agree_fit a entry p is e within below
 agree_entry a entry (Some reason) p is e within below = refl
 
 -- after one entry the map agrees at a position below its first
-pub mapped-applied : (a : Agreement) (entry : Entry) (p : ℕ) → IsSound a → p < length (map_of a) → IsBelowFirst (effect_of a entry) p → mapped (applied a entry) p ≡ mapped a p
+pub mapped-applied : (a : Agreement) (entry : Entry) (p : ℕ) → IsSound a → p < length (map_of a) → IsBelowFirst (effect_of a entry) p
+    → mapped (applied a entry) p ≡ mapped a p
 mapped-applied a entry p is within below = agree_entry a entry (fault_of a entry) p is refl within below
 
 -- equal entries of two lists are both within
@@ -107,7 +113,8 @@ both_within xs ys p e h =
     ]
 
 -- after more entries the map agrees at a position below the first of every removal between
-pub mapped-applied_all : (a : Agreement) (entries : List Entry) (p : ℕ) → IsSound a → a.slots + length entries ≤ 1000000 → AllByRecursion HasValidTable entries → p < length (map_of a) → IsBelowFirsts a entries p → (p < length (map_of (applied_all a entries))) × (mapped (applied_all a entries) p ≡ mapped a p)
+pub mapped-applied_all : (a : Agreement) (entries : List Entry) (p : ℕ) → IsSound a → a.slots + length entries ≤ 1000000 → AllByRecursion HasValidTable entries
+    → p < length (map_of a) → IsBelowFirsts a entries p → (p < length (map_of (applied_all a entries))) × (mapped (applied_all a entries) p ≡ mapped a p)
 mapped-applied_all a [] p is few valid within below = (within, refl)
 mapped-applied_all a (entry ∷ entries) p is few valid within below =
     let one = mapped-applied a entry p is within below.0 in

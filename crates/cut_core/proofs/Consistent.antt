@@ -9,10 +9,11 @@ use Rattle.quota_table.specs.declared.rows.Row.{Row}
 use Rattle.quota_table.specs.Rows.{IsTable}
 use Rattle.quota_table.specs.declared.entry.Entry.{Entry}
 use Rattle.quota_table.specs.declared.entry.Entry.TheVariants.{Remove}
+use Rattle.quota_table.specs.Tables.{quotas_before}
 use Rattle.fix_ante.specs.declared.spots.Owner.{Owner}
-use Rattle.fix_ante.specs.Windows.{Window, has_row, width_of, end_of, first_of}
+use Rattle.fix_ante.specs.Windows.{Window, rows_of, has_row, width_of, end_of, first_of}
 use Rattle.fix_ante.specs.Locals.{quota_of}
-use Rattle.fix_ante.specs.Moves.{IsFirstMoved, quotas_before, first_failed_of}
+use Rattle.fix_ante.specs.Moves.{IsFirstMoved, first_failed_of}
 use Rattle.fix_ante.proofs.LayoutLemmas.{length-layout_of}
 use Rattle.fix_ante.proofs.PositionLemmas.{owner_of-round}
 use Rattle.fix_ante.proofs.MoveLemmas.{owner_among-own, owner_of-without_of}
@@ -39,10 +40,7 @@ use Rattle.cut_core.proofs.GoneEnds.{IsEnded, gone_end-ended, IsEnded-applied, g
 follows : (a : Agreement) (g : Option Window) → IsSound a → MayBeGrant a g → IfSome g (Follows a)
 follows a None is grant = tt
 follows a (Some w) is grant = record {
-  window = grant.window;
-  base = grant.base;
-  starts = grant.starts;
-  stays = grant.stays;
+  grant = grant;
   reach = omega (arith, grant.base, is.reach, end_of-window a.current is.window, end_of-window w grant.window);
 }
 
@@ -83,7 +81,8 @@ not_row a w shard grant gone =
       | inr none ↦ none
     ]
 
-granted-none : (a : Agreement) (g : Option Window) (owners : List Owner) (shard : ℕ) → MayBeGrant a g → is_gone a shard ≡ true → count_of shard (owners ++ granted_layout g) ≡ count_of shard owners
+granted-none : (a : Agreement) (g : Option Window) (owners : List Owner) (shard : ℕ) → MayBeGrant a g → is_gone a shard ≡ true
+    → count_of shard (owners ++ granted_layout g) ≡ count_of shard owners
 granted-none a None owners shard grant gone = ap (count_of shard) (append-nil owners)
 granted-none a (Some w) owners shard grant gone =
     let absent : has_row shard w.spots ≡ false = not_row a w shard grant gone in
@@ -103,7 +102,8 @@ gone-none a shard is gone =
 -- ---- removals
 
 -- a removal leaves no window granted, and its shard in no position that isn't covered
-removed-absent : (a : Agreement) (shard local p : ℕ) → IsSound (record (after_remove a shard) { slots = a.slots + 1 }) → length a.covered ≤ p → mapped (after_remove a shard) p ≢ Some (record { shard = shard; local = local })
+removed-absent : (a : Agreement) (shard local p : ℕ) → IsSound (record (after_remove a shard) { slots = a.slots + 1 }) → length a.covered ≤ p
+    → mapped (after_remove a shard) p ≢ Some (record { shard = shard; local = local })
 removed-absent a shard local p is from e =
     let b = record (after_remove a shard) { slots = a.slots + 1 } in
     elim (cases_lt p (end_of b.current)) [
@@ -111,7 +111,8 @@ removed-absent a shard local p is from e =
       | inr past ↦ none-some (record { shard = shard; local = local }) (sym (mapped-granted b p is past) ∙ e)
     ]
 
-first-moved : (a : Agreement) (shard : ℕ) → IsSound a → a.slots < 1000000 → has_row shard a.current.spots ≡ true → 2 ≤ length a.current.spots → IsFirstMoved (mapped a) (mapped (after_remove a shard)) (first_failed_of a.current a.rounds shard)
+first-moved : (a : Agreement) (shard : ℕ) → IsSound a → a.slots < 1000000 → has_row shard a.current.spots ≡ true → 2 ≤ length a.current.spots
+    → IsFirstMoved (mapped a) (mapped (after_remove a shard)) (first_failed_of a.current a.rounds shard)
 first-moved a shard is few row another =
     let own = owner_among-own a.current.spots a.rounds shard is.window.table.within row in
     let first = first_failed_of a.current a.rounds shard in
@@ -120,7 +121,7 @@ first-moved a shard is few row another =
     let below : first < end_of a.current = omega (arith, own.0) in
     let from : length a.covered ≤ first = omega (arith, is.covered) in
     let was : mapped a first ≡ Some (record { shard = shard; local = own.1 }) =
-    mapped-current a first is from below ∙ (owner_of-round a.current a.rounds (quotas_before a.current.spots shard) is.short own.0 ∙ own.2) in
+    mapped-current a first is from below ∙ (owner_of-round a.current a.rounds (quotas_before (rows_of a.current.spots) shard) is.short own.0 ∙ own.2) in
     record {
       stays = λ p h. sym (map-remove a shard p is row h);
       moves = λ same. removed-absent a shard own.1 first (IsSound-remove a shard is few row another) from (sym same ∙ was);
@@ -131,7 +132,8 @@ another_row true e = refl
 another_row false e = absurd (cc)
 
 -- a removal that fits
-removal : (a : Agreement) (window shard : ℕ) → IsSound a → a.slots < 1000000 → fault_of a (Remove window shard) ≡ None → MovesFrom a (Remove window shard) (first_failed_of a.current a.rounds shard)
+removal : (a : Agreement) (window shard : ℕ) → IsSound a → a.slots < 1000000 → fault_of a (Remove window shard) ≡ None
+    → MovesFrom a (Remove window shard) (first_failed_of a.current a.rounds shard)
 removal a window shard is few fits =
     let named = no_fault (not (window == a.current.number)) (WrongWindow a.current.number) _ fits in
     let row = no_fault (not (has_row shard a.current.spots)) (NotARow shard) _ named.1 in
@@ -151,15 +153,11 @@ removal a window shard is few fits =
 
 pub IsConsistent-sound : (a : Agreement) → IsSound a → IsEnded a → IsConsistent a
 IsConsistent-sound a is ended = record {
-  window = is.window;
-  short = is.short;
-  base = is.reach;
+  sound = is;
   reach = omega (arith, is.reach, end_of-window a.current is.window);
   granted = follows a a.granted is is.grant;
   fits = map-fits a is;
-  covered = is.covered;
   rows_go_on = λ shard row. is.starts shard (is.rows shard row);
-  rows_stay = is.rows;
   others_have_none = λ shard none stays. sym (is.starts shard stays) ∙ start_after-absent a.current.spots a.rounds shard none;
   gone_have_ended = λ shard gone. gone_end-ended a shard ended gone;
   dense = λ shard. map-dense a shard is;
@@ -169,13 +167,15 @@ IsConsistent-sound a is ended = record {
   removals = λ window shard few fits. removal a window shard is few fits;
 }
 
-kept : (a : Agreement) (entries : List Entry) → IsSound a → IsEnded a → a.slots + length entries ≤ 1000000 → AllByRecursion HasValidTable entries → IsSound (applied_all a entries) × IsEnded (applied_all a entries)
+kept : (a : Agreement) (entries : List Entry) → IsSound a → IsEnded a → a.slots + length entries ≤ 1000000 → AllByRecursion HasValidTable entries
+    → IsSound (applied_all a entries) × IsEnded (applied_all a entries)
 kept a [] is ended few valid = (is, ended)
 kept a (entry ∷ entries) is ended few valid =
     kept (applied a entry) entries (IsSound-applied a entry is (omega arith) valid.0) (IsEnded-applied a entry is ended) (omega arith) valid.1
 
 -- after any list of entries, from the first window on
-pub IsConsistent-fold_of : (rounds : ℕ) (rows : List Row) (entries : List Entry) → 1 ≤ rounds → rounds ≤ 1024 → IsTable rows → length entries ≤ 1000000 → AllByRecursion HasValidTable entries → IsConsistent (fold_of (first_of rounds rows) entries)
+pub IsConsistent-fold_of : (rounds : ℕ) (rows : List Row) (entries : List Entry) → 1 ≤ rounds → rounds ≤ 1024 → IsTable rows → length entries ≤ 1000000
+    → AllByRecursion HasValidTable entries → IsConsistent (fold_of (first_of rounds rows) entries)
 IsConsistent-fold_of rounds rows entries some most table few valid =
     let first = agreement_from (first_of rounds rows) in
     let all = kept first entries (IsSound-first rounds rows some most table) tt (omega arith) valid in

@@ -23,18 +23,21 @@ pub start_after-absent : (spots : List Spot) (rounds shard : ℕ) → has_row sh
 start_after-absent spots rounds shard h = (absent_row spots rounds shard (sym (has_row-rows_of shard spots) ∙ h)).1
 
 -- some rounds more
-pub locals_of-more : (shard : ℕ) (owners : List Owner) (spots : List Spot) (round count : ℕ) → is_distinct (rows_of spots) ≡ true → locals_of shard (owners ++ rounds_from spots round count) ≡ locals_of shard owners ++ range_with_len (start_after spots round shard) (count * quota_of spots shard)
+pub locals_of-more : (shard : ℕ) (owners : List Owner) (spots : List Spot) (round count : ℕ) → is_distinct (rows_of spots) ≡ true
+    → locals_of shard (owners ++ rounds_from spots round count) ≡ locals_of shard owners ++ range_with_len (start_after spots round shard) (count * quota_of spots shard)
 locals_of-more shard owners spots round count distinct =
     locals_of-append shard owners (rounds_from spots round count) ∙ ap (λ t. locals_of shard owners ++ t) (locals_of-rounds_from spots round count shard distinct)
 
-pub count_of-more : (shard : ℕ) (owners : List Owner) (spots : List Spot) (round count : ℕ) → is_distinct (rows_of spots) ≡ true → count_of shard (owners ++ rounds_from spots round count) ≡ count_of shard owners + count * quota_of spots shard
+pub count_of-more : (shard : ℕ) (owners : List Owner) (spots : List Spot) (round count : ℕ) → is_distinct (rows_of spots) ≡ true
+    → count_of shard (owners ++ rounds_from spots round count) ≡ count_of shard owners + count * quota_of spots shard
 count_of-more shard owners spots round count distinct =
     ap length (locals_of-more shard owners spots round count distinct)
     ∙ length-append (locals_of shard owners) (range_with_len (start_after spots round shard) (count * quota_of spots shard))
     ∙ ap (λ n. count_of shard owners + n) (length-range_with_len (start_after spots round shard) (count * quota_of spots shard))
 
 -- numbers without a gap stay so where the next go on
-pub dense-more : (have next : List ℕ) (from count : ℕ) → have ≡ range_with_len 0 (length have) → next ≡ range_with_len from count → from ≡ length have → have ++ next ≡ range_with_len 0 (length (have ++ next))
+pub dense-more : (have next : List ℕ) (from count : ℕ) → have ≡ range_with_len 0 (length have) → next ≡ range_with_len from count → from ≡ length have
+    → have ++ next ≡ range_with_len 0 (length (have ++ next))
 dense-more have next from count dense is goes =
     let size : length (have ++ next) ≡ length have + count = length-append have next ∙ ap (λ n. length have + n) (ap length is ∙ length-range_with_len from count) in
     let at : 0 + length have ≡ length have = omega arith in
@@ -50,11 +53,14 @@ dense-none have next dense none =
     all ∙ (dense ∙ ap (λ t. range_with_len 0 (length t)) (sym all))
 
 -- one of two lists of gone shards
-pub gone-append : (shard : ℕ) (xs ys : List Gone) → list_any (λ (g : Gone). g.shard == shard) (xs ++ ys) ≡ (list_any (λ (g : Gone). g.shard == shard) xs || list_any (λ (g : Gone). g.shard == shard) ys)
+pub gone-append : (shard : ℕ) (xs ys : List Gone)
+    → list_any (λ (g : Gone). g.shard == shard) (xs ++ ys) ≡ (list_any (λ (g : Gone). g.shard == shard) xs || list_any (λ (g : Gone). g.shard == shard) ys)
 gone-append shard xs ys = list_any-append (λ (g : Gone). g.shard == shard) xs ys
 
 -- a shard that no entry of a list of rows drops, though it is a row, passes the test
-pub kept_row : (test : Spot → Bool) (end : Spot → ℕ) (spots : List Spot) (shard : ℕ) → ((s : Spot) → (s.shard == shard) ≡ true → test s ≡ true) → has_row shard spots ≡ true → list_any (λ (g : Gone). g.shard == shard) (map (λ (s : Spot). record { shard = s.shard; end = end s }) (filter test spots)) ≡ true
+pub kept_row : (test : Spot → Bool) (end : Spot → ℕ) (spots : List Spot) (shard : ℕ) → ((s : Spot) → (s.shard == shard) ≡ true → test s ≡ true)
+    → has_row shard spots ≡ true
+    → list_any (λ (g : Gone). g.shard == shard) (map (λ (s : Spot). record { shard = s.shard; end = end s }) (filter test spots)) ≡ true
 kept_row test end [] shard all h = h
 kept_row test end (s ∷ ss) shard all h =
     elim (cases_Bool (s.shard == shard)) [
@@ -69,7 +75,8 @@ kept_row test end (s ∷ ss) shard all h =
     ]
 
 -- and one that no row passing the test has isn't dropped
-pub undropped_row : (test : Spot → Bool) (end : Spot → ℕ) (spots : List Spot) (shard : ℕ) → ((s : Spot) → (s.shard == shard) ≡ true → test s ≡ false) → list_any (λ (g : Gone). g.shard == shard) (map (λ (s : Spot). record { shard = s.shard; end = end s }) (filter test spots)) ≡ false
+pub undropped_row : (test : Spot → Bool) (end : Spot → ℕ) (spots : List Spot) (shard : ℕ) → ((s : Spot) → (s.shard == shard) ≡ true → test s ≡ false)
+    → list_any (λ (g : Gone). g.shard == shard) (map (λ (s : Spot). record { shard = s.shard; end = end s }) (filter test spots)) ≡ false
 undropped_row test end [] shard none = refl
 undropped_row test end (s ∷ ss) shard none =
     let rest = undropped_row test end ss shard none in

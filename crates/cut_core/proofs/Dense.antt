@@ -19,7 +19,8 @@ abbrev pub IsDense : ℕ → List Owner → Type 0
 IsDense shard owners = locals_of shard owners ≡ range_with_len 0 (count_of shard owners)
 
 -- owners that go on where those before stop
-dense-append : (shard : ℕ) (xs ys : List Owner) (from count : ℕ) → IsDense shard xs → locals_of shard ys ≡ range_with_len from count → from ≡ count_of shard xs → IsDense shard (xs ++ ys)
+dense-append : (shard : ℕ) (xs ys : List Owner) (from count : ℕ) → IsDense shard xs → locals_of shard ys ≡ range_with_len from count → from ≡ count_of shard xs
+    → IsDense shard (xs ++ ys)
 dense-append shard xs ys from count dense next goes =
     let joined = locals_of-append shard xs ys in
     joined ∙ dense-more (locals_of shard xs) (locals_of shard ys) from count dense next goes ∙ ap (λ t. range_with_len 0 (length t)) (sym joined)
@@ -31,13 +32,16 @@ dense-others shard xs ys dense none =
     joined ∙ dense-none (locals_of shard xs) (locals_of shard ys) dense none ∙ ap (λ t. range_with_len 0 (length t)) (sym joined)
 
 -- no locals where no row is the shard's
-absent-rounds : (a : Window) (round count shard : ℕ) → locals_of shard (rounds_from a.spots round count) ≡ range_with_len (start_after a.spots round shard) (count * quota_of a.spots shard) → has_row shard a.spots ≡ false → locals_of shard (rounds_from a.spots round count) ≡ []
+absent-rounds : (a : Window) (round count shard : ℕ)
+    → locals_of shard (rounds_from a.spots round count) ≡ range_with_len (start_after a.spots round shard) (count * quota_of a.spots shard)
+    → has_row shard a.spots ≡ false → locals_of shard (rounds_from a.spots round count) ≡ []
 absent-rounds a round count shard is none =
     let zero_quota = quota_of-absent a.spots shard none in
     let nothing : count * quota_of a.spots shard ≡ zero = ap (λ n. count * n) zero_quota ∙ omega arith in
     is ∙ ap (range_with_len (start_after a.spots round shard)) nothing
 
-rest-locals : (a : Agreement) (shard : ℕ) → IsSound a → locals_of shard (rest_of a) ≡ range_with_len (start_after a.current.spots a.rounds shard) ((a.current.rounds - a.rounds) * quota_of a.current.spots shard)
+rest-locals : (a : Agreement) (shard : ℕ) → IsSound a
+    → locals_of shard (rest_of a) ≡ range_with_len (start_after a.current.spots a.rounds shard) ((a.current.rounds - a.rounds) * quota_of a.current.spots shard)
 rest-locals a shard is = locals_of-rounds_from a.current.spots a.rounds (a.current.rounds - a.rounds) shard is.window.table.distinct
 
 -- the covered owners and the rest of the window
@@ -49,7 +53,8 @@ dense-rest a shard is =
     ]
 
 -- where a shard goes on after the window
-pub count-rest : (a : Agreement) (shard : ℕ) → IsSound a → is_gone a shard ≡ false → start_after a.current.spots a.current.rounds shard ≡ count_of shard (a.covered ++ rest_of a)
+pub count-rest : (a : Agreement) (shard : ℕ) → IsSound a → is_gone a shard ≡ false
+    → start_after a.current.spots a.current.rounds shard ≡ count_of shard (a.covered ++ rest_of a)
 count-rest a shard is stays =
     let left = a.current.rounds - a.rounds in
     let all : a.current.rounds ≡ a.rounds + left = omega (arith, is.short) in
@@ -85,7 +90,8 @@ next_index i None e = absurd (cc)
 next_index i (Some j) e = (j, refl, cc)
 
 -- the owner stands at its index
-pub slice_get-index_of : (os : List Owner) (shard local i : ℕ) → index_of os shard local ≡ Some i → slice_get os i ≡ Some (record { shard = shard; local = local })
+pub slice_get-index_of : (os : List Owner) (shard local i : ℕ) → index_of os shard local ≡ Some i
+    → slice_get os i ≡ Some (record { shard = shard; local = local })
 slice_get-index_of [] shard local i e = absurd (cc)
 slice_get-index_of (o ∷ os) shard local i e =
     elim (cases_Bool ((o.shard == shard) && (o.local == local))) [
@@ -101,12 +107,14 @@ slice_get-index_of (o ∷ os) shard local i e =
     ]
 
 -- below the first local there is none
-pub range_with_len-head : (n count x : ℕ) (xs : List ℕ) → x ∷ xs ≡ range_with_len n count → (less : ℕ) × (count ≡ suc less) × (x ≡ n) × (xs ≡ range_with_len (n + 1) less)
+pub range_with_len-head : (n count x : ℕ) (xs : List ℕ) → x ∷ xs ≡ range_with_len n count
+    → (less : ℕ) × (count ≡ suc less) × (x ≡ n) × (xs ≡ range_with_len (n + 1) less)
 range_with_len-head n zero x xs e = absurd (cc)
 range_with_len-head n (suc count) x xs e = (count, refl, cc, cc)
 
 -- an owner that stands somewhere isn't below the first of its shard's locals
-pub local_from : (os : List Owner) (shard local i n count : ℕ) → locals_of shard os ≡ range_with_len n count → slice_get os i ≡ Some (record { shard = shard; local = local }) → n ≤ local
+pub local_from : (os : List Owner) (shard local i n count : ℕ) → locals_of shard os ≡ range_with_len n count
+    → slice_get os i ≡ Some (record { shard = shard; local = local }) → n ≤ local
 local_from [] shard local i n count dense e = absurd (cc)
 local_from (o ∷ os) shard local zero n count dense e =
     let same : o.shard ≡ shard = cc in
@@ -123,7 +131,8 @@ local_from (o ∷ os) shard local (suc i) n count dense e =
     ]
 
 -- an owner's index is where it stands, where its shard's locals are dense
-pub index_of-dense : (os : List Owner) (shard local i n count : ℕ) → locals_of shard os ≡ range_with_len n count → slice_get os i ≡ Some (record { shard = shard; local = local }) → index_of os shard local ≡ Some i
+pub index_of-dense : (os : List Owner) (shard local i n count : ℕ) → locals_of shard os ≡ range_with_len n count
+    → slice_get os i ≡ Some (record { shard = shard; local = local }) → index_of os shard local ≡ Some i
 index_of-dense [] shard local i n count dense e = absurd (cc)
 index_of-dense (o ∷ os) shard local zero n count dense e =
     let same : o.shard ≡ shard = cc in

@@ -18,7 +18,7 @@ use Rattle.cut_core.specs.Agreements.{Agreement, Gone, count_of}
 use Rattle.cut_core.specs.Fold.{with_round}
 use Rattle.cut_core.specs.Map.{end_among}
 use Rattle.cut_core.specs.Soundness.{IsSound, HasFinalEnds}
-use Rattle.cut_core.specs.Agreed.{local_end}
+use Rattle.cut_core.specs.Insides.{local_end}
 use Rattle.cut_core.proofs.Counts.{quota_of-absent}
 use Rattle.cut_core.proofs.Kept.{gone-row, count_of-round, starts-round}
 
@@ -38,7 +38,8 @@ AreCounts-append count [] ys h k = k
 AreCounts-append count (x ∷ xs) ys h k = (h.0, AreCounts-append count xs ys h.1 k)
 
 -- rows with their counts as ends
-pub AreCounts-rows : (count : ℕ → ℕ) (test : Spot → Bool) (spots : List Spot) → AreCounts count (map (λ (s : Spot). record { shard = s.shard; end = count s.shard }) (filter test spots))
+pub AreCounts-rows : (count : ℕ → ℕ) (test : Spot → Bool) (spots : List Spot)
+    → AreCounts count (map (λ (s : Spot). record { shard = s.shard; end = count s.shard }) (filter test spots))
 AreCounts-rows count test [] = tt
 AreCounts-rows count test (s ∷ ss) =
     let rest = AreCounts-rows count test ss in
@@ -48,7 +49,8 @@ AreCounts-rows count test (s ∷ ss) =
     ]
 
 -- counts that stay where a shard is among them
-pub AreCounts-stay : (before after : ℕ → ℕ) (gs : List Gone) → AreCounts before gs → ((shard : ℕ) → is_among gs shard ≡ true → after shard ≡ before shard) → AreCounts after gs
+pub AreCounts-stay : (before after : ℕ → ℕ) (gs : List Gone) → AreCounts before gs → ((shard : ℕ) → is_among gs shard ≡ true → after shard ≡ before shard)
+    → AreCounts after gs
 AreCounts-stay before after [] h stays = tt
 AreCounts-stay before after (g ∷ gs) h stays =
     (h.0 ∙ sym (stays g.shard (or_left _ _ (eq-eqb g.shard g.shard refl))), AreCounts-stay before after gs h.1 (λ shard among. stays shard (or_right _ _ among)))
@@ -58,7 +60,9 @@ abbrev pub by_end : (ℕ → ℕ) → Spot → Gone
 by_end end s = record { shard = s.shard; end = end s.shard }
 
 -- ends by a table that has the counts
-pub ends-table : (ends : List ℕ) (count : ℕ → ℕ) (test : Spot → Bool) (spots : List Spot) → list_all is_row (rows_of spots) ≡ true → ((shard : ℕ) → shard < 6 → get_or ends shard 0 ≡ count shard) → map (by_end (λ s. get_or ends s 0)) (filter test spots) ≡ map (by_end count) (filter test spots)
+pub ends-table : (ends : List ℕ) (count : ℕ → ℕ) (test : Spot → Bool) (spots : List Spot) → list_all is_row (rows_of spots) ≡ true
+    → ((shard : ℕ) → shard < 6 → get_or ends shard 0 ≡ count shard)
+    → map (by_end (λ s. get_or ends s 0)) (filter test spots) ≡ map (by_end count) (filter test spots)
 ends-table ends count test [] within is = refl
 ends-table ends count test (s ∷ ss) within is =
     let parts = and_parts (is_row (row_of s)) (list_all is_row (rows_of ss)) within in
@@ -93,12 +97,14 @@ end_among-none (g ∷ gs) shard e =
       | inr other ↦ or_from _ _ other (end_among-none gs shard (sym (cond-false _ _ _ other) ∙ e))
     ]
 
-local_end_by : (count : ℕ → ℕ) (gs : List Gone) (shard start : ℕ) (found : Option ℕ) → AreCounts count gs → (is_among gs shard ≡ false → start ≡ count shard) → end_among gs shard ≡ found → unwrap_or found start ≡ count shard
+local_end_by : (count : ℕ → ℕ) (gs : List Gone) (shard start : ℕ) (found : Option ℕ) → AreCounts count gs → (is_among gs shard ≡ false → start ≡ count shard)
+    → end_among gs shard ≡ found → unwrap_or found start ≡ count shard
 local_end_by count gs shard start None counts goes e = goes (end_among-none gs shard e)
 local_end_by count gs shard start (Some end) counts goes e = end_among-counted count gs shard end counts e
 
 -- a shard's covered locals are those before its end where it is gone, and else those before its next one
-pub local_end-counted : (count : ℕ → ℕ) (spots : List Spot) (rounds : ℕ) (gs : List Gone) (shard : ℕ) → AreCounts count gs → (is_among gs shard ≡ false → start_after spots rounds shard ≡ count shard) → local_end spots rounds gs shard ≡ count shard
+pub local_end-counted : (count : ℕ → ℕ) (spots : List Spot) (rounds : ℕ) (gs : List Gone) (shard : ℕ) → AreCounts count gs
+    → (is_among gs shard ≡ false → start_after spots rounds shard ≡ count shard) → local_end spots rounds gs shard ≡ count shard
 local_end-counted count spots rounds gs shard counts goes = local_end_by count gs shard (start_after spots rounds shard) (end_among gs shard) counts goes refl
 
 pub local_end-sound : (a : Agreement) (shard : ℕ) → IsSound a → HasFinalEnds a → local_end a.current.spots a.rounds a.gone shard ≡ count_of shard a.covered
@@ -113,7 +119,8 @@ ends-round a is final =
     let none = quota_of-absent a.current.spots shard (gone-row a is.rows shard gone) in
     omega arith)
 
-pub local_end-round : (a : Agreement) (shard : ℕ) → IsSound a → HasFinalEnds a → local_end a.current.spots (a.rounds + 1) a.gone shard ≡ count_of shard (with_round a).covered
+pub local_end-round : (a : Agreement) (shard : ℕ) → IsSound a → HasFinalEnds a
+    → local_end a.current.spots (a.rounds + 1) a.gone shard ≡ count_of shard (with_round a).covered
 local_end-round a shard is final =
     local_end-counted (λ s. count_of s (with_round a).covered) a.current.spots (a.rounds + 1) a.gone shard (ends-round a is final) (λ stays. starts-round a shard is stays)
 
@@ -130,7 +137,9 @@ any_push : (xs : List ℕ) (x y : ℕ) → list_any (nat_eq y) xs ≡ false → 
 any_push xs x y absent apart = list_any-append (nat_eq y) xs (x ∷ []) ∙ or_from _ _ absent (or_from _ _ apart refl)
 
 -- numbers that differ, and rows of other shards that differ
-distinct-rows : (xs : List ℕ) (test : Spot → Bool) (spots : List Spot) → IsDistinct nat_eq xs → is_distinct (rows_of spots) ≡ true → ((shard : ℕ) → has_row shard spots ≡ true → list_any (nat_eq shard) xs ≡ false) → IsDistinct nat_eq (xs ++ map (λ (s : Spot). s.shard) (filter test spots))
+distinct-rows : (xs : List ℕ) (test : Spot → Bool) (spots : List Spot) → IsDistinct nat_eq xs → is_distinct (rows_of spots) ≡ true
+    → ((shard : ℕ) → has_row shard spots ≡ true → list_any (nat_eq shard) xs ≡ false)
+    → IsDistinct nat_eq (xs ++ map (λ (s : Spot). s.shard) (filter test spots))
 distinct-rows xs test [] distinct rows absent = subst (IsDistinct nat_eq) (sym (append-nil xs)) distinct
 distinct-rows xs test (s ∷ ss) distinct rows absent =
     let parts = and_parts _ (is_distinct (rows_of ss)) rows in
@@ -165,7 +174,8 @@ map-append-shards : (xs ys : List Gone) → map shard_of (xs ++ ys) ≡ map shar
 map-append-shards [] ys = refl
 map-append-shards (x ∷ xs) ys = ap (λ t. x.shard ∷ t) (map-append-shards xs ys)
 
-shards-rows : (end : ℕ → ℕ) (spots : List Spot) → map shard_of (map (λ (s : Spot). record { shard = s.shard; end = end s.shard }) spots) ≡ map (λ (s : Spot). s.shard) spots
+shards-rows : (end : ℕ → ℕ) (spots : List Spot)
+    → map shard_of (map (λ (s : Spot). record { shard = s.shard; end = end s.shard }) spots) ≡ map (λ (s : Spot). s.shard) spots
 shards-rows end [] = refl
 shards-rows end (s ∷ ss) = ap (λ t. s.shard ∷ t) (shards-rows end ss)
 
@@ -210,7 +220,8 @@ room a is final =
 pub HasFinalEnds-round : (a : Agreement) → IsSound a → HasFinalEnds a → HasFinalEnds (with_round a)
 HasFinalEnds-round a is final = record { distinct = final.distinct; within = final.within; ends = ends-round a is final }
 
-left_row : (end : ℕ → ℕ) (test : Spot → Bool) (spots : List Spot) (shard : ℕ) → is_among (map (λ (s : Spot). record { shard = s.shard; end = end s.shard }) (filter test spots)) shard ≡ true → has_row shard spots ≡ true
+left_row : (end : ℕ → ℕ) (test : Spot → Bool) (spots : List Spot) (shard : ℕ)
+    → is_among (map (λ (s : Spot). record { shard = s.shard; end = end s.shard }) (filter test spots)) shard ≡ true → has_row shard spots ≡ true
 left_row end test [] shard h = h
 left_row end test (s ∷ ss) shard h =
     let gone : Spot → Gone = λ t. record { shard = t.shard; end = end t.shard } in
@@ -223,7 +234,9 @@ left_row end test (s ∷ ss) shard h =
     ]
 
 -- some of the rows go too
-pub final-rows : (a : Agreement) (b : Agreement) (test : Spot → Bool) → IsSound a → HasFinalEnds a → b.gone ≡ a.gone ++ map (λ (s : Spot). record { shard = s.shard; end = count_of s.shard b.covered }) (filter test a.current.spots) → AreCounts (λ s. count_of s b.covered) a.gone → HasFinalEnds b
+pub final-rows : (a : Agreement) (b : Agreement) (test : Spot → Bool) → IsSound a → HasFinalEnds a
+    → b.gone ≡ a.gone ++ map (λ (s : Spot). record { shard = s.shard; end = count_of s.shard b.covered }) (filter test a.current.spots)
+    → AreCounts (λ s. count_of s b.covered) a.gone → HasFinalEnds b
 final-rows a b test is final gone counts =
     let end : ℕ → ℕ = λ s. count_of s b.covered in
     let left = map (λ (s : Spot). record { shard = s.shard; end = end s.shard }) (filter test a.current.spots) in
@@ -239,7 +252,8 @@ final-rows a b test is final gone counts =
       ends = subst (AreCounts end) (sym gone) (AreCounts-append end a.gone left counts (AreCounts-rows end test a.current.spots));
     }
 
-pub HasFinalEnds-removed : (a b : Agreement) (shard : ℕ) → IsSound a → HasFinalEnds a → has_row shard a.current.spots ≡ true → b.covered ≡ a.covered → b.gone ≡ a.gone ++ record { shard = shard; end = count_of shard a.covered } ∷ [] → HasFinalEnds b
+pub HasFinalEnds-removed : (a b : Agreement) (shard : ℕ) → IsSound a → HasFinalEnds a → has_row shard a.current.spots ≡ true → b.covered ≡ a.covered
+    → b.gone ≡ a.gone ++ record { shard = shard; end = count_of shard a.covered } ∷ [] → HasFinalEnds b
 HasFinalEnds-removed a b shard is final row covered gone =
     let one : Gone = record { shard = shard; end = count_of shard a.covered } in
     let shards : map shard_of b.gone ≡ map shard_of a.gone ++ shard ∷ [] = ap (map shard_of) gone ∙ map-append-shards a.gone (one ∷ []) in

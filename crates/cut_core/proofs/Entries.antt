@@ -4,19 +4,19 @@ use Rattle.std.specs.Prelude.{nat_lt}
 use Rattle.std.specs.List.{filter, list_all}
 use Rattle.std.proofs.lemmas.Bool.{cases_Bool, cond-true, cond-false, eqb-true, ltb-true, lt-ltb, le-ltb, and_parts, or_cases, both_ways}
 use Rattle.quota_table.specs.Rows.{is_row}
-use Rattle.quota_table.specs.Tables.{quotas_of}
+use Rattle.quota_table.specs.Tables.{quotas_of, quotas_before}
 use Rattle.fix_ante.specs.declared.spots.Spot.{Spot}
 use Rattle.fix_ante.specs.declared.spots.Owner.{Owner}
 use Rattle.fix_ante.specs.Windows.{Window, rows_of, row_of, has_row, start_after, without_of}
 use Rattle.fix_ante.specs.Layout.{place_of}
 use Rattle.fix_ante.specs.Positions.{owner_among}
-use Rattle.fix_ante.specs.Moves.{quotas_before, first_failed_of}
+use Rattle.fix_ante.specs.Moves.{first_failed_of}
 use Rattle.fix_ante.proofs.PositionLemmas.{place_of-owner, owner_of-round}
 use Rattle.cut_core.specs.declared.agreed.Agreed.TheInside.{Inside}
 use Rattle.cut_core.specs.Agreements.{Agreement, Gone, count_of, is_last_round}
 use Rattle.cut_core.specs.Fold.{with_round, dropped_rows, opened, after_remove}
 use Rattle.cut_core.specs.Soundness.{MayBeGrant, IsGrant, IsSound, HasFinalEnds}
-use Rattle.cut_core.specs.Agreed.{agreement_of, IsAgreed, followed, local_end}
+use Rattle.cut_core.specs.Insides.{agreement_of, IsAgreed, followed, local_end}
 use Rattle.cut_core.proofs.Kept.{IsSound-opened, IsSound-remove}
 use Rattle.cut_core.proofs.Ends.{ends-table, row-within, ends-round, local_end-round, local_end-sound, final-rows, HasFinalEnds-removed}
 use Rattle.cut_core.proofs.Follows.{followed-opened, followed-removed}
@@ -34,7 +34,8 @@ pub record Opens (a : Agreement) (w : Window) (rounds : ℕ) (ends : List ℕ) (
   pub sound : IsSound (followed a rounds w gone)
   pub settled : HasFinalEnds (followed a rounds w gone)
 
-pub opens : (a : Agreement) (w : Window) (rounds : ℕ) (ends : List ℕ) (gone : List Gone) → IsSound a → HasFinalEnds a → IsGrant a w → rounds ≡ a.current.rounds → a.rounds + 1 ≡ a.current.rounds
+pub opens : (a : Agreement) (w : Window) (rounds : ℕ) (ends : List ℕ) (gone : List Gone) → IsSound a → HasFinalEnds a → IsGrant a w → rounds ≡ a.current.rounds
+    → a.rounds + 1 ≡ a.current.rounds
     → ((shard : ℕ) → shard < 6 → get_or ends shard 0 ≡ local_end a.current.spots rounds a.gone shard)
     → gone ≡ a.gone ++ dropped_by ends a w → Opens a w rounds ends gone
 opens a w rounds ends gone is final grant all last table left =
@@ -62,7 +63,8 @@ pub record Removes (a : Agreement) (shard : ℕ) (next : Window) (ends : List �
   pub sound : IsSound (followed a a.rounds next gone)
   pub settled : HasFinalEnds (followed a a.rounds next gone)
 
-pub removes : (a : Agreement) (shard : ℕ) (next : Window) (ends : List ℕ) (gone : List Gone) → IsSound a → HasFinalEnds a → a.slots < 1000000 → has_row shard a.current.spots ≡ true → 2 ≤ length a.current.spots → shard < 6
+pub removes : (a : Agreement) (shard : ℕ) (next : Window) (ends : List ℕ) (gone : List Gone) → IsSound a → HasFinalEnds a → a.slots < 1000000
+    → has_row shard a.current.spots ≡ true → 2 ≤ length a.current.spots → shard < 6
     → ((s : ℕ) → s < 6 → get_or ends s 0 ≡ local_end a.current.spots a.rounds a.gone s)
     → next ≡ without_of a.current (a.slots + 1) a.rounds shard
     → gone ≡ a.gone ++ record { shard = shard; end = get_or ends shard 0 } ∷ [] → Removes a shard next ends gone
@@ -82,7 +84,8 @@ removes a shard next ends gone is final few row another below table is_next left
     }
 
 -- the shard's next local has the first place of a round that it can have
-owner_among-first : (spots : List Spot) (round shard : ℕ) → list_all is_row (rows_of spots) ≡ true → has_row shard spots ≡ true → (quotas_before spots shard < quotas_of (rows_of spots)) × (owner_among spots round (quotas_before spots shard) ≡ Some (record { shard = shard; local = start_after spots round shard }))
+owner_among-first : (spots : List Spot) (round shard : ℕ) → list_all is_row (rows_of spots) ≡ true → has_row shard spots ≡ true
+    → (quotas_before (rows_of spots) shard < quotas_of (rows_of spots)) × (owner_among spots round (quotas_before (rows_of spots) shard) ≡ Some (record { shard = shard; local = start_after spots round shard }))
 owner_among-first [] round shard within row = absurd (cc)
 owner_among-first (s ∷ ss) round shard within row =
     let parts = and_parts (is_row (row_of s)) (list_all is_row (rows_of ss)) within in
@@ -90,33 +93,35 @@ owner_among-first (s ∷ ss) round shard within row =
     let owner : ℕ → ℕ → Option Owner = λ t l. Some (record { shard = t; local = l }) in
     elim (cases_Bool (s.shard == shard)) [
       | inl same ↦
-          let before : quotas_before (s ∷ ss) shard ≡ 0 = cond-true _ _ _ same in
+          let before : quotas_before (rows_of (s ∷ ss)) shard ≡ 0 = cond-true _ _ _ same in
           let start : start_after (s ∷ ss) round shard ≡ s.start + round * s.quota = cond-true _ _ _ same in
           let first : owner_among (s ∷ ss) round 0 ≡ owner s.shard (s.start + round * s.quota + 0) = cond-true _ _ _ (lt-ltb 0 s.quota some) in
           let local : s.start + round * s.quota + 0 ≡ start_after (s ∷ ss) round shard = omega (arith, start) in
           (omega (arith, before), ap (owner_among (s ∷ ss) round) before ∙ (first ∙ (ap (λ t. owner t (s.start + round * s.quota + 0)) (eqb-true s.shard shard same) ∙ ap (owner shard) local)))
       | inr other ↦
-          let before : quotas_before (s ∷ ss) shard ≡ s.quota + quotas_before ss shard = cond-false _ _ _ other in
+          let before : quotas_before (rows_of (s ∷ ss)) shard ≡ s.quota + quotas_before (rows_of ss) shard = cond-false _ _ _ other in
           let start : start_after (s ∷ ss) round shard ≡ start_after ss round shard = cond-false _ _ _ other in
           let later : has_row shard ss ≡ true = elim (or_cases _ _ row) [ inl same ↦ absurd (both_ways _ other same) | inr found ↦ found ] in
           let rest = owner_among-first ss round shard parts.1 later in
-          let at : s.quota + quotas_before ss shard - s.quota ≡ quotas_before ss shard = omega arith in
-          let past : owner_among (s ∷ ss) round (s.quota + quotas_before ss shard) ≡ owner_among ss round (s.quota + quotas_before ss shard - s.quota) = cond-false _ _ _ (le-ltb (s.quota + quotas_before ss shard) s.quota (omega arith)) in
+          let at : s.quota + quotas_before (rows_of ss) shard - s.quota ≡ quotas_before (rows_of ss) shard = omega arith in
+          let past : owner_among (s ∷ ss) round (s.quota + quotas_before (rows_of ss) shard) ≡ owner_among ss round (s.quota + quotas_before (rows_of ss) shard - s.quota) = cond-false _ _ _ (le-ltb (s.quota + quotas_before (rows_of ss) shard) s.quota (omega arith)) in
           (omega (arith, before, rest.0), ap (owner_among (s ∷ ss) round) before ∙ (past ∙ (ap (owner_among ss round) at ∙ (rest.1 ∙ ap (owner shard) (sym start)))))
     ]
 
 -- the first local of a row that isn't covered has the first failed position
-pub place_of-first_failed : (a : Agreement) (shard local : ℕ) → IsSound a → has_row shard a.current.spots ≡ true → local ≡ start_after a.current.spots a.rounds shard → place_of a.current shard local ≡ Some (first_failed_of a.current a.rounds shard)
+pub place_of-first_failed : (a : Agreement) (shard local : ℕ) → IsSound a → has_row shard a.current.spots ≡ true
+    → local ≡ start_after a.current.spots a.rounds shard → place_of a.current shard local ≡ Some (first_failed_of a.current a.rounds shard)
 place_of-first_failed a shard local is row at =
     let w = a.current in
     let first = owner_among-first w.spots a.rounds shard is.window.table.within row in
     let o : Owner = record { shard = shard; local = start_after w.spots a.rounds shard } in
-    let owner = owner_of-round w a.rounds (quotas_before w.spots shard) is.short first.0 ∙ first.1 in
+    let owner = owner_of-round w a.rounds (quotas_before (rows_of w.spots) shard) is.short first.0 ∙ first.1 in
     ap (place_of w shard) at ∙ (place_of-owner w (first_failed_of w a.rounds shard) o is.window owner).2
 
 -- ---- the same from the fields
 
-pub opens_from : (i : Inside) (a : Agreement) (w : Window) (rounds : ℕ) (ends : List ℕ) (gone kept : List Gone) → agreement_of i ≡ a → IsAgreed i → i.granted ≡ Some w → is_last_round a ≡ true → rounds ≡ i.current.rounds
+pub opens_from : (i : Inside) (a : Agreement) (w : Window) (rounds : ℕ) (ends : List ℕ) (gone kept : List Gone) → agreement_of i ≡ a → IsAgreed i
+    → i.granted ≡ Some w → is_last_round a ≡ true → rounds ≡ i.current.rounds
     → kept ≡ i.gone.items
     → ((shard : ℕ) → shard < 6 → get_or ends shard 0 ≡ local_end i.current.spots rounds kept shard)
     → gone ≡ i.gone.items ++ dropped_by ends (agreement_of i) w → Opens a w rounds ends gone
@@ -127,7 +132,8 @@ opens_from i a w rounds ends gone kept view is granted last all same table left 
     subst (λ (x : Agreement). Opens x w rounds ends gone) view
     (opens b w rounds ends gone is.sound is.final grant all (eqb-true (i.rounds + 1) i.current.rounds is_last) (λ shard below. table shard below ∙ ap (λ gs. local_end i.current.spots rounds gs shard) same) left)
 
-pub removes_from : (i : Inside) (a : Agreement) (shard : ℕ) (next : Window) (ends : List ℕ) (gone kept : List Gone) → agreement_of i ≡ a → IsAgreed i → a.slots < 1000000 → has_row shard a.current.spots ≡ true → 2 ≤ length a.current.spots
+pub removes_from : (i : Inside) (a : Agreement) (shard : ℕ) (next : Window) (ends : List ℕ) (gone kept : List Gone) → agreement_of i ≡ a → IsAgreed i
+    → a.slots < 1000000 → has_row shard a.current.spots ≡ true → 2 ≤ length a.current.spots
     → kept ≡ i.gone.items
     → ((s : ℕ) → s < 6 → get_or ends s 0 ≡ local_end i.current.spots i.rounds kept s)
     → next ≡ without_of i.current (i.slots + 1) i.rounds shard
@@ -141,7 +147,8 @@ removes_from i a shard next ends gone kept view is few row another same table is
     (removes b shard next ends gone is.sound is.final (omega arith) its (omega arith) (row-within b.current.spots shard is.sound.window.table.within its) (λ s below. table s below ∙ ap (λ gs. local_end i.current.spots i.rounds gs s) same) is_next left)
 
 -- the position that the shard's end has in the window
-pub place_of-end : (i : Inside) (a : Agreement) (shard local : ℕ) (ends : List ℕ) (kept : List Gone) → agreement_of i ≡ a → IsAgreed i → has_row shard a.current.spots ≡ true → kept ≡ i.gone.items
+pub place_of-end : (i : Inside) (a : Agreement) (shard local : ℕ) (ends : List ℕ) (kept : List Gone) → agreement_of i ≡ a → IsAgreed i
+    → has_row shard a.current.spots ≡ true → kept ≡ i.gone.items
     → ((s : ℕ) → s < 6 → get_or ends s 0 ≡ local_end i.current.spots i.rounds kept s) → local ≡ get_or ends shard 0
     → place_of i.current shard local ≡ Some (first_failed_of a.current a.rounds shard)
 place_of-end i a shard local ends kept view is row same table at =

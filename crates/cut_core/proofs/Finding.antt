@@ -17,7 +17,8 @@ use Rattle.cut_core.proofs.Dense.{IsDense, range_with_len-head, index_of-dense}
 -- ---- a shard's locals among owners where they stand one after another
 
 -- each of them stands somewhere
-local_found : (os : List Owner) (shard local n count : ℕ) → locals_of shard os ≡ range_with_len n count → n ≤ local → local < n + count → (i : ℕ) × (slice_get os i ≡ Some (record { shard = shard; local = local }))
+local_found : (os : List Owner) (shard local n count : ℕ) → locals_of shard os ≡ range_with_len n count → n ≤ local → local < n + count
+    → (i : ℕ) × (slice_get os i ≡ Some (record { shard = shard; local = local }))
 local_found [] shard local n zero dense from below = absurd (omega arith)
 local_found [] shard local n (suc count) dense from below = absurd (cc)
 local_found (o ∷ os) shard local n count dense from below =
@@ -38,7 +39,8 @@ local_found (o ∷ os) shard local n count dense from below =
     ]
 
 -- and no other does
-local_below : (os : List Owner) (shard local i n count : ℕ) → locals_of shard os ≡ range_with_len n count → slice_get os i ≡ Some (record { shard = shard; local = local }) → local < n + count
+local_below : (os : List Owner) (shard local i n count : ℕ) → locals_of shard os ≡ range_with_len n count
+    → slice_get os i ≡ Some (record { shard = shard; local = local }) → local < n + count
 local_below [] shard local i n count dense e = absurd (cc)
 local_below (o ∷ os) shard local zero n count dense e =
     let same : o.shard ≡ shard = cc in
@@ -54,10 +56,12 @@ local_below (o ∷ os) shard local (suc i) n count dense e =
       | inr other ↦ local_below os shard local i n count (sym (cond-false _ _ _ other) ∙ dense) e
     ]
 
-pub dense-found : (os : List Owner) (shard local : ℕ) → IsDense shard os → local < count_of shard os → (i : ℕ) × (slice_get os i ≡ Some (record { shard = shard; local = local }))
+pub dense-found : (os : List Owner) (shard local : ℕ) → IsDense shard os → local < count_of shard os
+    → (i : ℕ) × (slice_get os i ≡ Some (record { shard = shard; local = local }))
 dense-found os shard local dense below = local_found os shard local 0 (count_of shard os) dense (omega arith) (omega arith)
 
-pub dense-below : (os : List Owner) (shard local i : ℕ) → IsDense shard os → slice_get os i ≡ Some (record { shard = shard; local = local }) → local < count_of shard os
+pub dense-below : (os : List Owner) (shard local i : ℕ) → IsDense shard os → slice_get os i ≡ Some (record { shard = shard; local = local })
+    → local < count_of shard os
 dense-below os shard local i dense e =
     let below = local_below os shard local i 0 (count_of shard os) dense e in
     omega arith
@@ -95,7 +99,8 @@ count_of-le shard (o ∷ os) =
 -- ---- the covered rounds of a window, in their place among owners
 
 -- a position among them has its owner in the window
-pub slice_get-window : (w : Window) (rounds : ℕ) (before after : List Owner) (p : ℕ) → rounds ≤ w.rounds → w.base ≡ length before → length before ≤ p → p < length (before ++ rounds_from w.spots 0 rounds) → slice_get (before ++ (rounds_from w.spots 0 rounds ++ after)) p ≡ owner_of w p
+pub slice_get-window : (w : Window) (rounds : ℕ) (before after : List Owner) (p : ℕ) → rounds ≤ w.rounds → w.base ≡ length before → length before ≤ p
+    → p < length (before ++ rounds_from w.spots 0 rounds) → slice_get (before ++ (rounds_from w.spots 0 rounds ++ after)) p ≡ owner_of w p
 slice_get-window w rounds before after p fits base from below =
     let seen = rounds_from w.spots 0 rounds in
     let rest = rounds_from w.spots rounds (w.rounds - rounds) in
@@ -113,7 +118,10 @@ slice_get-window w rounds before after p fits base from below =
     found ∙ (sym entry ∙ sym owner)
 
 -- a local that stands first among them has its place in the window
-pub index_of-window : (w : Window) (rounds : ℕ) (before after : List Owner) (shard local : ℕ) → IsWindow w → rounds ≤ w.rounds → w.base ≡ length before → IsDense shard (before ++ (rounds_from w.spots 0 rounds ++ after)) → count_of shard before ≤ local → local < count_of shard (before ++ rounds_from w.spots 0 rounds) → index_of (before ++ (rounds_from w.spots 0 rounds ++ after)) shard local ≡ place_of w shard local
+pub index_of-window : (w : Window) (rounds : ℕ) (before after : List Owner) (shard local : ℕ) → IsWindow w → rounds ≤ w.rounds → w.base ≡ length before
+    → IsDense shard (before ++ (rounds_from w.spots 0 rounds ++ after)) → count_of shard before ≤ local
+    → local < count_of shard (before ++ rounds_from w.spots 0 rounds)
+    → index_of (before ++ (rounds_from w.spots 0 rounds ++ after)) shard local ≡ place_of w shard local
 index_of-window w rounds before after shard local is fits base dense from below =
     let seen = rounds_from w.spots 0 rounds in
     let all = before ++ (seen ++ after) in

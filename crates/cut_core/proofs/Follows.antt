@@ -10,7 +10,7 @@ use Rattle.quota_table.specs.declared.rows.Row.{Row}
 use Rattle.quota_table.specs.Rows.{IsTable, has_shard}
 use Rattle.fix_ante.specs.declared.spots.Spot.{Spot}
 use Rattle.fix_ante.specs.declared.spots.Owner.{Owner}
-use Rattle.fix_ante.specs.Windows.{Window, IsWindow, width_of, next_of, without_of}
+use Rattle.fix_ante.specs.Windows.{Window, IsWindow, width_of, window_after, without_of}
 use Rattle.fix_ante.specs.Layout.{round_of, rounds_from}
 use Rattle.fix_ante.proofs.Entries.{slice_get-append_left, slice_get-append_right}
 use Rattle.fix_ante.proofs.LayoutLemmas.{length-rounds_from, rounds_from-add}
@@ -20,7 +20,7 @@ use Rattle.cut_core.specs.declared.agreed.Agreed.TheInside.{Inside}
 use Rattle.cut_core.specs.Agreements.{Agreement, Gone, agreement_from, count_of, is_gone}
 use Rattle.cut_core.specs.Fold.{with_round, dropped_rows, opened, after_table, after_remove}
 use Rattle.cut_core.specs.Soundness.{IsFirst, IsSound, HasFinalEnds}
-use Rattle.cut_core.specs.Agreed.{owners_in, numbers_in, IsOver, AreOver, agreement_of, IsAgreed, followed}
+use Rattle.cut_core.specs.Insides.{owners_in, numbers_in, IsOver, AreOver, agreement_of, IsAgreed, followed}
 use Rattle.cut_core.proofs.Kept.{IsSound-round, IsSound-table}
 use Rattle.cut_core.proofs.Ends.{HasFinalEnds-round, IsDistinct-nil}
 
@@ -46,11 +46,13 @@ rounds-more spots from to le =
     let next : 0 + from ≡ from = omega arith in
     ap (rounds_from spots 0) all ∙ rounds_from-add spots 0 from (to - from) ∙ ap (λ n. rounds_from spots 0 from ++ rounds_from spots n (to - from)) next
 
-owners-more : (before : List Owner) (spots : List Spot) (from to : ℕ) → from ≤ to → before ++ rounds_from spots 0 to ≡ (before ++ rounds_from spots 0 from) ++ rounds_from spots from (to - from)
+owners-more : (before : List Owner) (spots : List Spot) (from to : ℕ) → from ≤ to
+    → before ++ rounds_from spots 0 to ≡ (before ++ rounds_from spots 0 from) ++ rounds_from spots from (to - from)
 owners-more before spots from to le =
     ap (λ t. before ++ t) (rounds-more spots from to le) ∙ sym (append_assoc before (rounds_from spots 0 from) (rounds_from spots from (to - from)))
 
-numbers-more : (before : List ℕ) (number width from to : ℕ) → from ≤ to → before ++ replicate (to * width) number ≡ (before ++ replicate (from * width) number) ++ replicate ((to - from) * width) number
+numbers-more : (before : List ℕ) (number width from to : ℕ) → from ≤ to
+    → before ++ replicate (to * width) number ≡ (before ++ replicate (from * width) number) ++ replicate ((to - from) * width) number
 numbers-more before number width from to le =
     let all : to ≡ from + (to - from) = omega arith in
     let sum : (from + (to - from)) * width ≡ from * width + (to - from) * width = omega arith in
@@ -67,7 +69,8 @@ one-round spots from to is =
 one-width : (width from to : ℕ) → to ≡ from + 1 → (to - from) * width ≡ width
 one-width width from to is = let one : to - from ≡ 1 = omega arith in ap (λ n. n * width) one ∙ omega arith
 
-pub round-view : (i : Inside) → agreement_of (record i { slots = i.slots + 1; rounds = i.rounds + 1 }) ≡ record (with_round (agreement_of i)) { slots = i.slots + 1 }
+pub round-view : (i : Inside)
+    → agreement_of (record i { slots = i.slots + 1; rounds = i.rounds + 1 }) ≡ record (with_round (agreement_of i)) { slots = i.slots + 1 }
 round-view i =
     let a = agreement_of i in
     let make : List Owner → List ℕ → Agreement = λ covered numbers. record a { slots = i.slots + 1; rounds = i.rounds + 1; covered = covered; numbers = numbers } in
@@ -76,7 +79,8 @@ round-view i =
     ap (λ c. make c (flat_map numbers_in i.past.items ++ replicate ((i.rounds + 1) * width_of i.current) i.current.number)) (covered ∙ ap (λ t. a.covered ++ t) (one-round i.current.spots i.rounds (i.rounds + 1) refl))
     ∙ ap (make (a.covered ++ round_of i.current.spots i.rounds)) (numbers ∙ ap (λ n. a.numbers ++ replicate n i.current.number) (one-width (width_of i.current) i.rounds (i.rounds + 1) refl))
 
-pub IsAgreed-round : (i : Inside) → IsAgreed i → i.slots < 1000000 → i.rounds + 1 < i.current.rounds → IsAgreed (record i { slots = i.slots + 1; rounds = i.rounds + 1 })
+pub IsAgreed-round : (i : Inside) → IsAgreed i → i.slots < 1000000 → i.rounds + 1 < i.current.rounds
+    → IsAgreed (record i { slots = i.slots + 1; rounds = i.rounds + 1 })
 IsAgreed-round i is below short = record {
   sound = subst IsSound (sym (round-view i)) (IsSound-round (agreement_of i) is.sound short);
   final =
@@ -110,7 +114,9 @@ flat_map-push f past p = flat_map-append f past (p ∷ []) ∙ ap (λ t. flat_ma
 none-of : (number width : ℕ) → replicate (0 * width) number ≡ []
 none-of number width = let none : 0 * width ≡ 0 = omega arith in ap (λ n. replicate n number) none
 
-pub followed-view : (i j : Inside) (rounds end : ℕ) (ends : List ℕ) → i.rounds ≤ rounds → j.slots ≡ i.slots + 1 → j.past.items ≡ i.past.items ++ record { window = i.current; rounds = rounds; end = end; ends = ends } ∷ [] → j.rounds ≡ 0 → j.granted ≡ None → agreement_of j ≡ followed (agreement_of i) rounds j.current j.gone.items
+pub followed-view : (i j : Inside) (rounds end : ℕ) (ends : List ℕ) → i.rounds ≤ rounds → j.slots ≡ i.slots + 1
+    → j.past.items ≡ i.past.items ++ record { window = i.current; rounds = rounds; end = end; ends = ends } ∷ [] → j.rounds ≡ 0 → j.granted ≡ None
+    → agreement_of j ≡ followed (agreement_of i) rounds j.current j.gone.items
 followed-view i j rounds end ends from slots past none free =
     let p : Past = record { window = i.current; rounds = rounds; end = end; ends = ends } in
     let a = agreement_of i in
@@ -165,7 +171,8 @@ IsAgreed-follow i j rounds end ends is below from most last counts sound settled
 
 -- ---- what follows where a grant is opened, and where a shard is removed
 
-pub followed-opened : (a : Agreement) (w : Window) → a.rounds + 1 ≡ a.current.rounds → followed a a.current.rounds w (a.gone ++ dropped_rows (with_round a) w) ≡ record (opened (with_round a) w) { slots = a.slots + 1 }
+pub followed-opened : (a : Agreement) (w : Window) → a.rounds + 1 ≡ a.current.rounds
+    → followed a a.current.rounds w (a.gone ++ dropped_rows (with_round a) w) ≡ record (opened (with_round a) w) { slots = a.slots + 1 }
 followed-opened a w last =
     let make : List Owner → List ℕ → Agreement = λ covered numbers. record {
       slots = a.slots + 1;
@@ -179,7 +186,8 @@ followed-opened a w last =
     ap (λ t. make (a.covered ++ t) (a.numbers ++ replicate ((a.current.rounds - a.rounds) * width_of a.current) a.current.number)) (one-round a.current.spots a.rounds a.current.rounds (sym last))
     ∙ ap (λ n. make (a.covered ++ round_of a.current.spots a.rounds) (a.numbers ++ replicate n a.current.number)) (one-width (width_of a.current) a.rounds a.current.rounds (sym last))
 
-pub followed-removed : (a : Agreement) (shard : ℕ) → followed a a.rounds (without_of a.current (a.slots + 1) a.rounds shard) (a.gone ++ record { shard = shard; end = count_of shard a.covered } ∷ []) ≡ record (after_remove a shard) { slots = a.slots + 1 }
+pub followed-removed : (a : Agreement) (shard : ℕ)
+    → followed a a.rounds (without_of a.current (a.slots + 1) a.rounds shard) (a.gone ++ record { shard = shard; end = count_of shard a.covered } ∷ []) ≡ record (after_remove a shard) { slots = a.slots + 1 }
 followed-removed a shard =
     let none : a.rounds - a.rounds ≡ zero = omega arith in
     let make : List Owner → List ℕ → Agreement = λ covered numbers. record {
@@ -197,7 +205,8 @@ followed-removed a shard =
 
 -- ---- the first state, and one whose fields are equal
 
-same-view : (i j : Inside) → j.slots ≡ i.slots → j.past.items ≡ i.past.items → j.current ≡ i.current → j.rounds ≡ i.rounds → j.granted ≡ i.granted → j.gone.items ≡ i.gone.items → agreement_of j ≡ agreement_of i
+same-view : (i j : Inside) → j.slots ≡ i.slots → j.past.items ≡ i.past.items → j.current ≡ i.current → j.rounds ≡ i.rounds → j.granted ≡ i.granted
+    → j.gone.items ≡ i.gone.items → agreement_of j ≡ agreement_of i
 same-view i j slots past current rounds granted gone =
     let make : ℕ → List Past → Window → ℕ → Option Window → List Gone → Agreement = λ s p w r g gs. record {
       slots = s;
@@ -215,7 +224,8 @@ same-view i j slots past current rounds granted gone =
     ∙ ap (λ g. make i.slots i.past.items i.current i.rounds g j.gone.items) granted
     ∙ ap (make i.slots i.past.items i.current i.rounds i.granted) gone
 
-pub IsAgreed-same : (i j : Inside) → j.slots ≡ i.slots → j.past.items ≡ i.past.items → j.current ≡ i.current → j.rounds ≡ i.rounds → j.granted ≡ i.granted → j.gone.items ≡ i.gone.items → IsAgreed i → IsAgreed j
+pub IsAgreed-same : (i j : Inside) → j.slots ≡ i.slots → j.past.items ≡ i.past.items → j.current ≡ i.current → j.rounds ≡ i.rounds → j.granted ≡ i.granted
+    → j.gone.items ≡ i.gone.items → IsAgreed i → IsAgreed j
 IsAgreed-same i j slots past current rounds granted gone is =
     let view = same-view i j slots past current rounds granted gone in
     record {
@@ -225,7 +235,8 @@ IsAgreed-same i j slots past current rounds granted gone is =
       over = subst AreOver (sym past) is.over;
     }
 
-pub first-view : (i : Inside) → i.slots ≡ 0 → i.past.items ≡ [] → i.rounds ≡ 0 → i.granted ≡ None → i.gone.items ≡ [] → agreement_of i ≡ agreement_from i.current
+pub first-view : (i : Inside) → i.slots ≡ 0 → i.past.items ≡ [] → i.rounds ≡ 0 → i.granted ≡ None → i.gone.items ≡ []
+    → agreement_of i ≡ agreement_from i.current
 first-view i slots past rounds granted gone =
     let make : ℕ → List Owner → List ℕ → ℕ → Option Window → List Gone → Agreement = λ s o n r g gs. record { slots = s; covered = o; numbers = n; current = i.current; rounds = r; granted = g; gone = gs } in
     let a = agreement_of i in
@@ -241,7 +252,8 @@ first-view i slots past rounds granted gone =
 no_past : (p : Past) (at : ℕ) → slice_get [] at ≡ Some p → IsOver (flat_map owners_in (take at [])) p
 no_past p at e = absurd (cc)
 
-pub IsAgreed-first : (i : Inside) → IsWindow i.current → IsFirst i.current → i.slots ≡ 0 → i.past.items ≡ [] → i.rounds ≡ 0 → i.granted ≡ None → i.gone.items ≡ [] → IsAgreed i
+pub IsAgreed-first : (i : Inside) → IsWindow i.current → IsFirst i.current → i.slots ≡ 0 → i.past.items ≡ [] → i.rounds ≡ 0 → i.granted ≡ None
+    → i.gone.items ≡ [] → IsAgreed i
 IsAgreed-first i window first slots past rounds granted gone =
     let view = first-view i slots past rounds granted gone in
     let none : HasFinalEnds (agreement_from i.current) = record { distinct = IsDistinct-nil; within = λ shard no. absurd (cc); ends = tt } in
@@ -254,7 +266,9 @@ IsAgreed-first i window first slots past rounds granted gone =
 
 -- ---- a window is granted
 
-pub IsAgreed-grant : (i j : Inside) (w : Window) (rounds : ℕ) (rows : List Row) → IsAgreed i → i.slots < 1000000 → 1 ≤ rounds → rounds ≤ 1024 → IsTable rows → ((shard : ℕ) → has_shard shard rows ≡ true → is_gone (agreement_of i) shard ≡ false) → w ≡ next_of i.current (i.slots + 1) rounds rows → agreement_of j ≡ record (agreement_of i) { slots = i.slots + 1; granted = Some w } → j.past.items ≡ i.past.items → j.slots ≡ i.slots + 1 → IsAgreed j
+pub IsAgreed-grant : (i j : Inside) (w : Window) (rounds : ℕ) (rows : List Row) → IsAgreed i → i.slots < 1000000 → 1 ≤ rounds → rounds ≤ 1024 → IsTable rows
+    → ((shard : ℕ) → has_shard shard rows ≡ true → is_gone (agreement_of i) shard ≡ false) → w ≡ window_after i.current (i.slots + 1) rounds rows
+    → agreement_of j ≡ record (agreement_of i) { slots = i.slots + 1; granted = Some w } → j.past.items ≡ i.past.items → j.slots ≡ i.slots + 1 → IsAgreed j
 IsAgreed-grant i j w rounds rows is below some most table stays next view past slots =
     let a = agreement_of i in
     let granted : ℕ → Window → Agreement = λ s g. record a { slots = s; granted = Some g } in
@@ -272,7 +286,8 @@ pub record IsFollowed (a : Agreement) (rounds : ℕ) (w : Window) (j : Inside) :
   pub kept : IsAgreed j
   pub view : agreement_of j ≡ followed a rounds w j.gone.items
 
-pub follow-kept : (i j : Inside) (a : Agreement) (held w : Window) (rounds end : ℕ) (ends : List ℕ) (reserved : List Past) → agreement_of i ≡ a → IsAgreed i → a.slots < 1000000 → a.rounds ≤ rounds → rounds ≤ a.current.rounds
+pub follow-kept : (i j : Inside) (a : Agreement) (held w : Window) (rounds end : ℕ) (ends : List ℕ) (reserved : List Past) → agreement_of i ≡ a → IsAgreed i
+    → a.slots < 1000000 → a.rounds ≤ rounds → rounds ≤ a.current.rounds
     → held ≡ i.current → j.current ≡ w → reserved ≡ i.past.items
     → j.past.items ≡ reserved ++ record { window = held; rounds = rounds; end = end; ends = ends } ∷ []
     → end ≡ i.current.base + rounds * width_of i.current

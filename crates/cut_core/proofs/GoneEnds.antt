@@ -24,7 +24,8 @@ use Rattle.cut_core.proofs.AgreeingLemmas.{covered-applied}
 abbrev pub IsEnded : Agreement → Type 0
 IsEnded a = AreCounts (λ shard. count_of shard a.covered) a.gone
 
-end_found : (count : ℕ → ℕ) (gs : List Gone) (shard : ℕ) (end : Option ℕ) → AreCounts count gs → is_among gs shard ≡ true → end_among gs shard ≡ end → end ≡ Some (count shard)
+end_found : (count : ℕ → ℕ) (gs : List Gone) (shard : ℕ) (end : Option ℕ) → AreCounts count gs → is_among gs shard ≡ true → end_among gs shard ≡ end
+    → end ≡ Some (count shard)
 end_found count gs shard None counts gone e = absurd (both_ways _ (end_among-none gs shard e) gone)
 end_found count gs shard (Some end) counts gone e = ap (λ n. Some n) (end_among-counted count gs shard end counts e)
 
@@ -117,7 +118,8 @@ gone_entry a entry None = gone_fit a entry
 gone_entry a entry (Some reason) = ([], sym (append-nil a.gone))
 
 -- the end of a gone shard stays
-pub gone_end-applied_all : (a : Agreement) (entries : List Entry) (shard end : ℕ) → gone_end a shard ≡ Some end → gone_end (applied_all a entries) shard ≡ Some end
+pub gone_end-applied_all : (a : Agreement) (entries : List Entry) (shard end : ℕ) → gone_end a shard ≡ Some end
+    → gone_end (applied_all a entries) shard ≡ Some end
 gone_end-applied_all a [] shard end e = e
 gone_end-applied_all a (entry ∷ entries) shard end e =
     let more = gone_entry a entry (fault_of a entry) in

@@ -45,11 +45,13 @@ next-or n None (Some i) = let next : suc (n + i) ≡ suc n + i = omega arith in 
 index_here : (o : Owner) (os : List Owner) (shard local : ℕ) → ((o.shard == shard) && (o.local == local)) ≡ true → index_of (o ∷ os) shard local ≡ Some 0
 index_here o os shard local same = cond-true _ _ _ same
 
-index_later : (o : Owner) (os : List Owner) (shard local : ℕ) → ((o.shard == shard) && (o.local == local)) ≡ false → index_of (o ∷ os) shard local ≡ option_map suc (index_of os shard local)
+index_later : (o : Owner) (os : List Owner) (shard local : ℕ) → ((o.shard == shard) && (o.local == local)) ≡ false
+    → index_of (o ∷ os) shard local ≡ option_map suc (index_of os shard local)
 index_later o os shard local other = cond-false _ _ _ other
 
 -- in the first list, or else in the second
-pub index_of-append : (xs ys : List Owner) (shard local : ℕ) → index_of (xs ++ ys) shard local ≡ option_or (index_of xs shard local) (option_map (λ i. length xs + i) (index_of ys shard local))
+pub index_of-append : (xs ys : List Owner) (shard local : ℕ)
+    → index_of (xs ++ ys) shard local ≡ option_or (index_of xs shard local) (option_map (λ i. length xs + i) (index_of ys shard local))
 index_of-append [] ys shard local = sym (option_map-zero (index_of ys shard local))
 index_of-append (o ∷ os) ys shard local =
     let later = index_of ys shard local in
@@ -72,11 +74,13 @@ own_later o os shard local apart =
       | inr other ↦ index_later o os shard local other
     ]
 
-other_later : (o : Owner) (os : List Owner) (shard local : ℕ) → (o.shard == shard) ≡ false → index_of (o ∷ os) shard local ≡ option_map suc (index_of os shard local)
+other_later : (o : Owner) (os : List Owner) (shard local : ℕ) → (o.shard == shard) ≡ false
+    → index_of (o ∷ os) shard local ≡ option_map suc (index_of os shard local)
 other_later o os shard local apart = index_later o os shard local (rw apart)
 
 -- one past the last has none
-pub index_of-past : (os : List Owner) (shard local n count : ℕ) → locals_of shard os ≡ range_with_len n count → n + count ≤ local → index_of os shard local ≡ None
+pub index_of-past : (os : List Owner) (shard local n count : ℕ) → locals_of shard os ≡ range_with_len n count → n + count ≤ local
+    → index_of os shard local ≡ None
 index_of-past [] shard local n count dense past = refl
 index_of-past (o ∷ os) shard local n count dense past =
     elim (cases_Bool (o.shard == shard)) [

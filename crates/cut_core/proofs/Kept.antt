@@ -21,7 +21,8 @@ use Rattle.cut_core.specs.Fold.{with_round, dropped_rows, opened, after_table, a
 use Rattle.cut_core.proofs.Counts.{quota_of-absent, start_after-absent, dense-more, dense-none, gone-append, kept_row, undropped_row}
 
 -- a gone shard is no row
-pub gone-row : (a : Agreement) → ((shard : ℕ) → has_row shard a.current.spots ≡ true → is_gone a shard ≡ false) → (shard : ℕ) → is_gone a shard ≡ true → has_row shard a.current.spots ≡ false
+pub gone-row : (a : Agreement) → ((shard : ℕ) → has_row shard a.current.spots ≡ true → is_gone a shard ≡ false) → (shard : ℕ) → is_gone a shard ≡ true
+    → has_row shard a.current.spots ≡ false
 gone-row a rows shard gone =
     elim (cases_Bool (has_row shard a.current.spots)) [
       | inl row ↦ absurd (both_ways _ (rows shard row) gone)
@@ -69,7 +70,8 @@ covered-round a is =
     let round = round_of a.current.spots a.rounds in
     omega (arith, length-append a.covered round, length-round_of a.current.spots a.rounds, is.covered)
 
-pub starts-round : (a : Agreement) (shard : ℕ) → IsSound a → is_gone a shard ≡ false → start_after a.current.spots (a.rounds + 1) shard ≡ count_of shard (with_round a).covered
+pub starts-round : (a : Agreement) (shard : ℕ) → IsSound a → is_gone a shard ≡ false
+    → start_after a.current.spots (a.rounds + 1) shard ≡ count_of shard (with_round a).covered
 starts-round a shard is stays =
     let before = is.starts shard stays in
     let more = start_after-add a.current.spots a.rounds 1 shard in
@@ -116,7 +118,8 @@ IsSound-round a is below = record {
 -- ---- the granted window is opened
 
 -- a row of the window before that is none of the opened one is dropped
-dropped : (a : Agreement) (w : Window) (shard : ℕ) → has_row shard w.spots ≡ false → has_row shard a.current.spots ≡ true → list_any (λ (g : Gone). g.shard == shard) (dropped_rows a w) ≡ true
+dropped : (a : Agreement) (w : Window) (shard : ℕ) → has_row shard w.spots ≡ false → has_row shard a.current.spots ≡ true
+    → list_any (λ (g : Gone). g.shard == shard) (dropped_rows a w) ≡ true
 dropped a w shard none row =
     kept_row (λ (s : Spot). not (has_row s.shard w.spots)) (λ (s : Spot). count_of s.shard a.covered) a.current.spots shard
     (λ s same. ap (λ n. not (has_row n w.spots)) (eqb-true s.shard shard same) ∙ not_from_false _ none) row
@@ -128,7 +131,8 @@ undropped a w shard row =
     (λ s same. ap (λ n. not (has_row n w.spots)) (eqb-true s.shard shard same) ∙ not_from_true _ row)
 
 -- where each shard goes on in the opened window
-starts-opened : (a : Agreement) (w : Window) (shard : ℕ) → IsSound a → IsGrant a w → a.rounds + 1 ≡ a.current.rounds → is_gone (opened (with_round a) w) shard ≡ false → start_after w.spots 0 shard ≡ count_of shard (with_round a).covered
+starts-opened : (a : Agreement) (w : Window) (shard : ℕ) → IsSound a → IsGrant a w → a.rounds + 1 ≡ a.current.rounds
+    → is_gone (opened (with_round a) w) shard ≡ false → start_after w.spots 0 shard ≡ count_of shard (with_round a).covered
 starts-opened a w shard is grant last stays =
     let b = with_round a in
     let parts = or_parts _ _ (sym (gone-append shard a.gone (dropped_rows b w)) ∙ stays) in
@@ -142,7 +146,8 @@ starts-opened a w shard is grant last stays =
           ]
     ]
 
-pub IsSound-opened : (a : Agreement) (w : Window) → IsSound a → IsGrant a w → a.rounds + 1 ≡ a.current.rounds → IsSound (record (opened (with_round a) w) { slots = a.slots + 1 })
+pub IsSound-opened : (a : Agreement) (w : Window) → IsSound a → IsGrant a w → a.rounds + 1 ≡ a.current.rounds
+    → IsSound (record (opened (with_round a) w) { slots = a.slots + 1 })
 IsSound-opened a w is grant last = record {
   window = grant.window;
   short = grant.window.some;
@@ -158,7 +163,8 @@ IsSound-opened a w is grant last = record {
 
 -- ---- a window is granted
 
-pub IsSound-table : (a : Agreement) (rounds : ℕ) (rows : List Row) → IsSound a → a.slots < 1000000 → 1 ≤ rounds → rounds ≤ 1024 → IsTable rows → ((shard : ℕ) → has_shard shard rows ≡ true → is_gone a shard ≡ false) → IsSound (record (after_table a rounds rows) { slots = a.slots + 1 })
+pub IsSound-table : (a : Agreement) (rounds : ℕ) (rows : List Row) → IsSound a → a.slots < 1000000 → 1 ≤ rounds → rounds ≤ 1024 → IsTable rows
+    → ((shard : ℕ) → has_shard shard rows ≡ true → is_gone a shard ≡ false) → IsSound (record (after_table a rounds rows) { slots = a.slots + 1 })
 IsSound-table a rounds rows is below some most table stays =
     let start = start_after a.current.spots a.current.rounds in
     let spots = spots_from start rows in
@@ -182,7 +188,8 @@ IsSound-table a rounds rows is below some most table stays =
 -- ---- a shard is removed
 
 -- a row that remains was a row, and is another shard's
-pub remaining_row : (spots : List Spot) (covered gone shard : ℕ) → has_row shard (spots_without spots covered gone) ≡ true → (has_row shard spots ≡ true) × ((gone == shard) ≡ false)
+pub remaining_row : (spots : List Spot) (covered gone shard : ℕ) → has_row shard (spots_without spots covered gone) ≡ true
+    → (has_row shard spots ≡ true) × ((gone == shard) ≡ false)
 remaining_row spots covered gone shard row =
     let remains : has_shard shard (rows_of (spots_without spots covered gone)) ≡ true = sym (has_row-rows_of shard (spots_without spots covered gone)) ∙ row in (
       elim (cases_Bool (has_shard shard (rows_of spots))) [
@@ -195,7 +202,8 @@ remaining_row spots covered gone shard row =
       ],
     )
 
-pub IsSound-remove : (a : Agreement) (shard : ℕ) → IsSound a → a.slots < 1000000 → has_row shard a.current.spots ≡ true → 2 ≤ length a.current.spots → IsSound (record (after_remove a shard) { slots = a.slots + 1 })
+pub IsSound-remove : (a : Agreement) (shard : ℕ) → IsSound a → a.slots < 1000000 → has_row shard a.current.spots ≡ true → 2 ≤ length a.current.spots
+    → IsSound (record (after_remove a shard) { slots = a.slots + 1 })
 IsSound-remove a shard is below row another =
     let end = end_of-window a.current is.window in
     let covered = mul-le a.rounds (width_of a.current) a.current.rounds (width_of a.current) (omega (arith, is.short)) (omega arith) in

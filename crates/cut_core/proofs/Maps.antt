@@ -3,11 +3,12 @@ use Rattle.std.proofs.Common.{◌≡◌, ℕ, zero, suc, ◌+◌, ◌-◌, ◌*�
 use Rattle.std.specs.List.{slice_get}
 use Rattle.std.proofs.lemmas.Bool.{cases_lt}
 use Rattle.std.proofs.lemmas.Nat.{mul-le}
+use Rattle.quota_table.specs.Tables.{quotas_before}
 use Rattle.fix_ante.specs.declared.spots.Owner.{Owner}
-use Rattle.fix_ante.specs.Windows.{Window, has_row, width_of}
+use Rattle.fix_ante.specs.Windows.{Window, rows_of, has_row, width_of}
 use Rattle.fix_ante.specs.Layout.{round_of, rounds_from, layout_of}
 use Rattle.fix_ante.specs.Positions.{owner_among}
-use Rattle.fix_ante.specs.Moves.{quotas_before, first_failed_of}
+use Rattle.fix_ante.specs.Moves.{first_failed_of}
 use Rattle.fix_ante.proofs.Entries.{slice_get-append_left, slice_get-append_right}
 use Rattle.fix_ante.proofs.LayoutLemmas.{length-rounds_from, slice_get-rounds_from}
 use Rattle.fix_ante.proofs.MoveLemmas.{quotas_before-le, owner_among-before, owner_among-own}
@@ -17,7 +18,8 @@ use Rattle.cut_core.specs.Map.{rest_of, granted_layout, map_of, mapped}
 use Rattle.cut_core.specs.Soundness.{IsSound}
 
 -- the rest of a window is its next round, and what is left then
-pub rest-round : (a : Agreement) → a.rounds < a.current.rounds → rest_of a ≡ round_of a.current.spots a.rounds ++ rounds_from a.current.spots (a.rounds + 1) (a.current.rounds - (a.rounds + 1))
+pub rest-round : (a : Agreement) → a.rounds < a.current.rounds
+    → rest_of a ≡ round_of a.current.spots a.rounds ++ rounds_from a.current.spots (a.rounds + 1) (a.current.rounds - (a.rounds + 1))
 rest-round a short =
     let left : a.current.rounds - a.rounds ≡ suc (a.current.rounds - (a.rounds + 1)) = omega arith in
     ap (rounds_from a.current.spots a.rounds) left
@@ -53,7 +55,8 @@ map-table a rounds w none =
     sym (append_assoc a.covered (rest_of a) (layout_of w)) ∙ ap (λ t. (a.covered ++ t) ++ layout_of w) (sym empty)
 
 -- the first places of the rest of a window
-first_places : (a : Agreement) (after : List Owner) (at : ℕ) → a.rounds < a.current.rounds → at < width_of a.current → slice_get (a.covered ++ (rest_of a ++ after)) (length a.covered + at) ≡ owner_among a.current.spots a.rounds at
+first_places : (a : Agreement) (after : List Owner) (at : ℕ) → a.rounds < a.current.rounds → at < width_of a.current
+    → slice_get (a.covered ++ (rest_of a ++ after)) (length a.covered + at) ≡ owner_among a.current.spots a.rounds at
 first_places a after at short below =
     let width = width_of a.current in
     let left : 0 < a.current.rounds - a.rounds = omega arith in
@@ -69,7 +72,8 @@ first_places a after at short below =
     ∙ ap (λ n. owner_among a.current.spots n at) round
 
 -- a removal leaves the map below its first position
-pub map-remove : (a : Agreement) (shard p : ℕ) → IsSound a → has_row shard a.current.spots ≡ true → p < first_failed_of a.current a.rounds shard → mapped (after_remove a shard) p ≡ mapped a p
+pub map-remove : (a : Agreement) (shard p : ℕ) → IsSound a → has_row shard a.current.spots ≡ true → p < first_failed_of a.current a.rounds shard
+    → mapped (after_remove a shard) p ≡ mapped a p
 map-remove a shard p is row below =
     let b = after_remove a shard in
     elim (cases_lt p (length a.covered)) [
@@ -78,7 +82,7 @@ map-remove a shard p is row below =
       | inr late ↦
           let at = p - length a.covered in
           let split : p ≡ length a.covered + at = omega arith in
-          let before : at < quotas_before a.current.spots shard = omega (arith, is.covered) in
+          let before : at < quotas_before (rows_of a.current.spots) shard = omega (arith, is.covered) in
           let own = owner_among-own a.current.spots a.rounds shard is.window.table.within row in
           let others = quotas_before-le a.current.spots a.rounds shard row in
           ap (slice_get (map_of b)) split

@@ -67,7 +67,8 @@ slice_get-replicate zero i x h = absurd (omega arith)
 slice_get-replicate (suc count) zero x h = refl
 slice_get-replicate (suc count) (suc i) x h = slice_get-replicate count i x (omega arith)
 
-pub numbers-current : (a : Agreement) (p : ℕ) → IsSound a → IsNumbered a → length a.covered ≤ p → p < end_of a.current → slice_get (numbers_of a) p ≡ Some a.current.number
+pub numbers-current : (a : Agreement) (p : ℕ) → IsSound a → IsNumbered a → length a.covered ≤ p → p < end_of a.current
+    → slice_get (numbers_of a) p ≡ Some a.current.number
 numbers-current a p sound is from below =
     let i = p - length a.covered in
     let rest = replicate (length (rest_of a)) a.current.number in
@@ -79,7 +80,8 @@ numbers-current a p sound is from below =
     ∙ slice_get-append_left rest (granted_numbers a.granted) i size
     ∙ slice_get-replicate (length (rest_of a)) i a.current.number within
 
-pub numbers-granted : (a : Agreement) (w : Window) (p : ℕ) → IsSound a → IsNumbered a → a.granted ≡ Some w → IsGrant a w → end_of a.current ≤ p → p < end_of w → slice_get (numbers_of a) p ≡ Some w.number
+pub numbers-granted : (a : Agreement) (w : Window) (p : ℕ) → IsSound a → IsNumbered a → a.granted ≡ Some w → IsGrant a w → end_of a.current ≤ p → p < end_of w
+    → slice_get (numbers_of a) p ≡ Some w.number
 numbers-granted a w p sound is granted grant from below =
     let i = p - end_of a.current in
     let rest = replicate (length (rest_of a)) a.current.number in

@@ -28,7 +28,8 @@ place_in_grant g shard local = option_and_then (λ (w : Window). place_of w shar
 
 -- ---- where the parts begin and end
 
-rounds-sum : (base first left rounds width covered rest : ℕ) → rounds ≡ first + left → covered ≡ base + first * width → rest ≡ left * width → covered + rest ≡ base + rounds * width
+rounds-sum : (base first left rounds width covered rest : ℕ) → rounds ≡ first + left → covered ≡ base + first * width → rest ≡ left * width
+    → covered + rest ≡ base + rounds * width
 rounds-sum base first left rounds width covered rest split c r = rw (split, c, r) (omega arith)
 
 rounds-split : (a : Agreement) → IsSound a → a.current.rounds ≡ a.rounds + (a.current.rounds - a.rounds)
@@ -74,7 +75,8 @@ mapped-current a p is from below =
     ∙ sym (owner-rest a i is)
     ∙ ap (owner_of a.current) (sym split)
 
-after-rest : (a : Agreement) (g : Option Window) (p : ℕ) → IsSound a → MayBeGrant a g → end_of a.current ≤ p → slice_get (a.covered ++ (rest_of a ++ granted_layout g)) p ≡ owner_in_grant g p
+after-rest : (a : Agreement) (g : Option Window) (p : ℕ) → IsSound a → MayBeGrant a g → end_of a.current ≤ p
+    → slice_get (a.covered ++ (rest_of a ++ granted_layout g)) p ≡ owner_in_grant g p
 after-rest a None p is grant past =
     slice_get_past (a.covered ++ (rest_of a ++ [])) p (omega (arith, length-append a.covered (rest_of a ++ []), length-append {A = Owner} (rest_of a) [], length-rest a is))
 after-rest a (Some w) p is grant past =
@@ -116,7 +118,8 @@ mapped-parts a p is =
 -- ---- positions of locals
 
 -- the covered rounds of the current window have covered locals alone
-covered-rounds : (a : Agreement) (shard local : ℕ) → IsSound a → count_of shard a.covered ≤ local → index_of (rounds_from a.current.spots 0 a.rounds) shard local ≡ None
+covered-rounds : (a : Agreement) (shard local : ℕ) → IsSound a → count_of shard a.covered ≤ local
+    → index_of (rounds_from a.current.spots 0 a.rounds) shard local ≡ None
 covered-rounds a shard local is past =
     let locals = locals_of-rounds_from a.current.spots 0 a.rounds shard is.window.table.distinct in
     let quota = quota_of a.current.spots shard in
@@ -133,7 +136,8 @@ covered-rounds a shard local is past =
     ])
 
 -- the current window gives an uncovered local its place in the rest
-pub place-rest : (a : Agreement) (shard local : ℕ) → IsSound a → count_of shard a.covered ≤ local → place_of a.current shard local ≡ option_map (λ i. length a.covered + i) (index_of (rest_of a) shard local)
+pub place-rest : (a : Agreement) (shard local : ℕ) → IsSound a → count_of shard a.covered ≤ local
+    → place_of a.current shard local ≡ option_map (λ i. length a.covered + i) (index_of (rest_of a) shard local)
 place-rest a shard local is past =
     let before = rounds_from a.current.spots 0 a.rounds in
     let index = index_of (rest_of a) shard local in
@@ -144,14 +148,16 @@ place-rest a shard local is past =
     ∙ ap (λ n. option_map (λ i. n + i) index) size
 
 -- the granted window gives a local its place after the current one
-place-grant : (a : Agreement) (g : Option Window) (shard local : ℕ) → IsSound a → MayBeGrant a g → option_map (λ i. length a.covered + length (rest_of a) + i) (index_of (granted_layout g) shard local) ≡ place_in_grant g shard local
+place-grant : (a : Agreement) (g : Option Window) (shard local : ℕ) → IsSound a → MayBeGrant a g
+    → option_map (λ i. length a.covered + length (rest_of a) + i) (index_of (granted_layout g) shard local) ≡ place_in_grant g shard local
 place-grant a None shard local is grant = refl
 place-grant a (Some w) shard local is grant =
     let base : length a.covered + length (rest_of a) ≡ w.base = length-rest a is ∙ sym grant.base in
     ap (λ n. option_map (λ i. n + i) (index_of (layout_of w) shard local)) base
 
 -- the position of an uncovered local, looked up in the current window, then in the granted one
-leased-uncovered : (a : Agreement) (shard local : ℕ) → IsSound a → count_of shard a.covered ≤ local → leased a shard local ≡ option_or (place_of a.current shard local) (place_in_grant a.granted shard local)
+leased-uncovered : (a : Agreement) (shard local : ℕ) → IsSound a → count_of shard a.covered ≤ local
+    → leased a shard local ≡ option_or (place_of a.current shard local) (place_in_grant a.granted shard local)
 leased-uncovered a shard local is past =
     let size = length a.covered in
     let rest = index_of (rest_of a) shard local in
@@ -165,7 +171,8 @@ leased-uncovered a shard local is past =
     ∙ ap (λ o. option_or o (place_in_grant a.granted shard local)) (sym (place-rest a shard local is past))
 
 -- the position of a local, looked up among the covered ones, then in the current window, then in the granted one
-pub leased-parts : (a : Agreement) (shard local : ℕ) → IsSound a → leased a shard local ≡ option_or (placed a shard local) (option_or (place_of a.current shard local) (place_in_grant a.granted shard local))
+pub leased-parts : (a : Agreement) (shard local : ℕ) → IsSound a
+    → leased a shard local ≡ option_or (placed a shard local) (option_or (place_of a.current shard local) (place_in_grant a.granted shard local))
 leased-parts a shard local is =
     let later = option_or (place_of a.current shard local) (place_in_grant a.granted shard local) in
     elim (cases_lt local (count_of shard a.covered)) [

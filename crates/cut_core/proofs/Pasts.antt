@@ -12,7 +12,7 @@ use Rattle.fix_ante.specs.declared.spots.Owner.{Owner}
 use Rattle.fix_ante.specs.Windows.{width_of}
 use Rattle.fix_ante.proofs.LayoutLemmas.{length-rounds_from}
 use Rattle.cut_core.specs.declared.past.Past.{Past}
-use Rattle.cut_core.specs.Agreed.{owners_in, numbers_in}
+use Rattle.cut_core.specs.Insides.{owners_in, numbers_in}
 
 -- the covered owners of the first windows that are over
 abbrev pub covered_by : ℕ → List Past → List Owner
@@ -28,7 +28,8 @@ covered_by-more (q ∷ qs) (suc at) p e =
     ap (λ t. owners_in q ++ t) (covered_by-more qs at p e) ∙ sym (append_assoc (owners_in q) (covered_by at qs) (owners_in p))
 
 -- the windows before one, the one, and those after it
-pub covered_by-split : (past : List Past) (at : ℕ) (p : Past) → slice_get past at ≡ Some p → flat_map owners_in past ≡ covered_by at past ++ (owners_in p ++ flat_map owners_in (drop (suc at) past))
+pub covered_by-split : (past : List Past) (at : ℕ) (p : Past) → slice_get past at ≡ Some p
+    → flat_map owners_in past ≡ covered_by at past ++ (owners_in p ++ flat_map owners_in (drop (suc at) past))
 covered_by-split [] at p e = absurd (cc)
 covered_by-split (q ∷ qs) zero p e =
     let same : q ≡ p = cc in
@@ -49,7 +50,8 @@ length-numbers_in [] = refl
 length-numbers_in (p ∷ ps) =
     omega (arith, length-append (numbers_in p) (flat_map numbers_in ps), length-append (owners_in p) (flat_map owners_in ps), length-in p, length-numbers_in ps)
 
-pub numbers_by-split : (past : List Past) (at : ℕ) (p : Past) → slice_get past at ≡ Some p → flat_map numbers_in past ≡ flat_map numbers_in (take at past) ++ (numbers_in p ++ flat_map numbers_in (drop (suc at) past))
+pub numbers_by-split : (past : List Past) (at : ℕ) (p : Past) → slice_get past at ≡ Some p
+    → flat_map numbers_in past ≡ flat_map numbers_in (take at past) ++ (numbers_in p ++ flat_map numbers_in (drop (suc at) past))
 numbers_by-split [] at p e = absurd (cc)
 numbers_by-split (q ∷ qs) zero p e =
     let same : q ≡ p = cc in
@@ -68,7 +70,8 @@ pub record Grows (measure : List Owner → ℕ) : Type 0 where
 abbrev pub IsKeyOf : (List Owner → ℕ) → (Past → ℕ) → List Past → Type 0
 IsKeyOf measure key past = (at : ℕ) (p : Past) → slice_get past at ≡ Some p → key p ≡ measure (covered_by at past ++ owners_in p)
 
-key_at : (measure : List Owner → ℕ) (key : Past → ℕ) (past : List Past) (at : ℕ) (d : Past) → IsKeyOf measure key past → at < length past → key (get_or past at d) ≡ measure (covered_by (suc at) past)
+key_at : (measure : List Owner → ℕ) (key : Past → ℕ) (past : List Past) (at : ℕ) (d : Past) → IsKeyOf measure key past → at < length past
+    → key (get_or past at d) ≡ measure (covered_by (suc at) past)
 key_at measure key past at d keys below =
     let e = slice_get-get_or past at d below in
     keys at (get_or past at d) e ∙ ap measure (sym (covered_by-more past at (get_or past at d) e))
@@ -96,7 +99,9 @@ IsFoundAt measure past value at =
     (measure (covered_by at past) ≤ value)
     × MatchOption (slice_get past at) (measure (flat_map owners_in past) ≤ value) (λ p. value < measure (covered_by at past ++ owners_in p))
 
-at_or_past : (measure : List Owner → ℕ) (key : Past → ℕ) (past : List Past) (value at : ℕ) (found : Option Past) → IsKeyOf measure key past → measure (covered_by at past) ≤ value → at ≤ length past → ((p : Past) → slice_get past at ≡ Some p → nat_le (key p) value ≡ false) → slice_get past at ≡ found → MatchOption found (measure (flat_map owners_in past) ≤ value) (λ p. value < measure (covered_by at past ++ owners_in p))
+at_or_past : (measure : List Owner → ℕ) (key : Past → ℕ) (past : List Past) (value at : ℕ) (found : Option Past) → IsKeyOf measure key past
+    → measure (covered_by at past) ≤ value → at ≤ length past → ((p : Past) → slice_get past at ≡ Some p → nat_le (key p) value ≡ false)
+    → slice_get past at ≡ found → MatchOption found (measure (flat_map owners_in past) ≤ value) (λ p. value < measure (covered_by at past ++ owners_in p))
 at_or_past measure key past value at (Some p) keys low bound fails e =
     let above = leb-false (key p) value (fails p e) in
     omega (arith, keys at p e)
@@ -108,7 +113,8 @@ at_or_past measure key past value at None keys low bound fails e =
           omega (arith, ap measure all)
     ]
 
-low_at : (measure : List Owner → ℕ) (key : Past → ℕ) (past : List Past) (value at : ℕ) → Grows measure → IsKeyOf measure key past → at ≤ length past → ((k : ℕ) (d : Past) → 0 ≤ k → k < at → nat_le (key (get_or past k d)) value ≡ true) → measure (covered_by at past) ≤ value
+low_at : (measure : List Owner → ℕ) (key : Past → ℕ) (past : List Past) (value at : ℕ) → Grows measure → IsKeyOf measure key past → at ≤ length past
+    → ((k : ℕ) (d : Past) → 0 ≤ k → k < at → nat_le (key (get_or past k d)) value ≡ true) → measure (covered_by at past) ≤ value
 low_at measure key past value zero grows keys bound passes = omega (arith, grows.none)
 low_at measure key past value (suc k) grows keys bound passes =
     elim ((slice_get_cases past k).1) [
@@ -119,7 +125,8 @@ low_at measure key past value (suc k) grows keys bound passes =
       | inr over ↦ absurd (omega (arith, over.0))
     ]
 
-pub found_at : (measure : List Owner → ℕ) (key : Past → ℕ) (past : List Past) (value at : ℕ) → Grows measure → IsKeyOf measure key past → at ≤ length past → IsPartitionPoint (λ (p : Past). nat_le (key p) value ≡ true) (λ (p : Past). nat_le (key p) value ≡ false) past at → IsFoundAt measure past value at
+pub found_at : (measure : List Owner → ℕ) (key : Past → ℕ) (past : List Past) (value at : ℕ) → Grows measure → IsKeyOf measure key past → at ≤ length past
+    → IsPartitionPoint (λ (p : Past). nat_le (key p) value ≡ true) (λ (p : Past). nat_le (key p) value ≡ false) past at → IsFoundAt measure past value at
 found_at measure key past value at grows keys bound point =
     let low : measure (covered_by at past) ≤ value = low_at measure key past value at grows keys bound point.0 in
     (low, at_or_past measure key past value at (slice_get past at) keys low bound (λ p e. ap (λ x. nat_le (key x) value) (sym (get_or_from_slice_get past at p p e)) ∙ point.1 at p (omega arith) (slice_get_within past at p e)) refl)

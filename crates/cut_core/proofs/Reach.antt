@@ -9,18 +9,18 @@ use Rattle.cut_core.specs.declared.agreed.Agreed.TheInside.{Inside}
 use Rattle.cut_core.specs.Agreements.{Agreement, Gone}
 use Rattle.cut_core.specs.Map.{end_among}
 use Rattle.cut_core.specs.Soundness.{MayBeGrant, IsSound, HasFinalEnds}
-use Rattle.cut_core.specs.Agreed.{agreement_of, IsAgreed}
+use Rattle.cut_core.specs.Insides.{agreement_of, IsAgreed}
 use Rattle.cut_core.proofs.Kept.{end_of-window}
 use Rattle.cut_core.proofs.Ends.{AreCounts, end_among-counted}
 
 -- what holds of the value that the fields stand for
-pub record IsKept (a : Agreement) : Type 0 where
+pub record IsSettled (a : Agreement) : Type 0 where
   pub sound : IsSound a
   pub final : HasFinalEnds a
   pub few : a.slots ≤ 1000000
 
-pub IsKept-view : (i : Inside) (a : Agreement) → agreement_of i ≡ a → IsAgreed i → IsKept a
-IsKept-view i a view is = subst IsKept view (record { sound = is.sound; final = is.final; few = is.few })
+pub IsKept-view : (i : Inside) (a : Agreement) → agreement_of i ≡ a → IsAgreed i → IsSettled a
+IsKept-view i a view is = subst IsSettled view (record { sound = is.sound; final = is.final; few = is.few })
 
 -- windows and covered positions end at 2^48 at most
 pub end-reach : (a : Agreement) → IsSound a → a.slots ≤ 1000000 → end_of a.current ≤ 2 ^ 48
@@ -38,7 +38,8 @@ covered-reach a is few =
     omega (arith, is.covered, end-reach a is few, mul-le a.rounds (width_of a.current) a.current.rounds (width_of a.current) (omega (arith, is.short)) (omega arith))
 
 -- a final end is the count of the covered locals
-end_by : (count : ℕ → ℕ) (gs : List Gone) (shard : ℕ) (found : Option ℕ) → AreCounts count gs → end_among gs shard ≡ found → IfSome found (λ end. end ≡ count shard)
+end_by : (count : ℕ → ℕ) (gs : List Gone) (shard : ℕ) (found : Option ℕ) → AreCounts count gs → end_among gs shard ≡ found
+    → IfSome found (λ end. end ≡ count shard)
 end_by count gs shard None counts e = tt
 end_by count gs shard (Some end) counts e = end_among-counted count gs shard end counts e
 
@@ -46,7 +47,8 @@ pub end_among-IfSome : (count : ℕ → ℕ) (gs : List Gone) (shard : ℕ) → 
 end_among-IfSome count gs shard counts = end_by count gs shard (end_among gs shard) counts refl
 
 -- the end of a window that is lent
-pub lent-IfSome : (lent : Option (Bor WindowHeld)) (g : Option Window) → option_copied lent ≡ g → IfSome g (λ w. end_of w ≤ 2 ^ 48) → IfSome lent (λ b. end_of b.now ≤ 2 ^ 48)
+pub lent-IfSome : (lent : Option (Bor WindowHeld)) (g : Option Window) → option_copied lent ≡ g → IfSome g (λ w. end_of w ≤ 2 ^ 48)
+    → IfSome lent (λ b. end_of b.now ≤ 2 ^ 48)
 lent-IfSome None g e h = tt
 lent-IfSome (Some b) None e h = absurd (cc)
 lent-IfSome (Some b) (Some w) e h = let same : b.now ≡ w = cc in subst (λ x. end_of x ≤ 2 ^ 48) (sym same) h

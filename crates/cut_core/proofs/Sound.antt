@@ -50,7 +50,8 @@ gone_row-none a (r ∷ rs) shard e has =
 
 -- ---- one entry more
 
-open_step : (a : Agreement) (g : Option Window) → IsSound a → MayBeGrant a g → is_last_round a ≡ true → grant_fault (is_last_round a) g ≡ None → IsSound (record (open_granted (with_round a) g) { slots = a.slots + 1 })
+open_step : (a : Agreement) (g : Option Window) → IsSound a → MayBeGrant a g → is_last_round a ≡ true → grant_fault (is_last_round a) g ≡ None
+    → IsSound (record (open_granted (with_round a) g) { slots = a.slots + 1 })
 open_step a None is grant last fits = absurd (both_ways _ ((no_fault (is_last_round a) NoGrant None fits).0) last)
 open_step a (Some w) is grant last fits = IsSound-opened a w is grant (eqb-true (a.rounds + 1) a.current.rounds last)
 
@@ -66,7 +67,8 @@ cut_step a is fits =
           subst (λ (x : Agreement). IsSound (record x { slots = a.slots + 1 })) (sym e) (IsSound-round a is (omega (arith, is.short, apart)))
     ]
 
-fit_step : (a : Agreement) (entry : Entry) → IsSound a → a.slots < 1000000 → HasValidTable entry → fault_of a entry ≡ None → IsSound (record (after_entry a entry) { slots = a.slots + 1 })
+fit_step : (a : Agreement) (entry : Entry) → IsSound a → a.slots < 1000000 → HasValidTable entry → fault_of a entry ≡ None
+    → IsSound (record (after_entry a entry) { slots = a.slots + 1 })
 fit_step a Nothing is below valid fits = IsSound-passed a is
 fit_step a (Cut window round) is below valid fits =
     let named = no_fault (not (window == a.current.number)) (WrongWindow a.current.number) _ fits in
@@ -81,7 +83,8 @@ fit_step a (Remove window shard) is below valid fits =
     let row = no_fault (not (has_row shard a.current.spots)) (NotARow shard) _ named.1 in
     IsSound-remove a shard is below (not-false (has_row shard a.current.spots) row.0) (ltb-true 1 (length a.current.spots) (no_last (nat_lt 1 (length a.current.spots)) row.1))
 
-entry_step : (a : Agreement) (entry : Entry) (fault : Option Reason) → IsSound a → a.slots < 1000000 → HasValidTable entry → fault_of a entry ≡ fault → IsSound (record (unless_void fault a (after_entry a entry)) { slots = a.slots + 1 })
+entry_step : (a : Agreement) (entry : Entry) (fault : Option Reason) → IsSound a → a.slots < 1000000 → HasValidTable entry → fault_of a entry ≡ fault
+    → IsSound (record (unless_void fault a (after_entry a entry)) { slots = a.slots + 1 })
 entry_step a entry None is below valid e = fit_step a entry is below valid e
 entry_step a entry (Some reason) is below valid e = IsSound-passed a is
 
@@ -89,12 +92,14 @@ entry_step a entry (Some reason) is below valid e = IsSound-passed a is
 pub IsSound-applied : (a : Agreement) (entry : Entry) → IsSound a → a.slots < 1000000 → HasValidTable entry → IsSound (applied a entry)
 IsSound-applied a entry is below valid = entry_step a entry (fault_of a entry) is below valid refl
 
-pub IsSound-applied_all : (a : Agreement) (entries : List Entry) → IsSound a → a.slots + length entries ≤ 1000000 → AllByRecursion HasValidTable entries → IsSound (applied_all a entries)
+pub IsSound-applied_all : (a : Agreement) (entries : List Entry) → IsSound a → a.slots + length entries ≤ 1000000 → AllByRecursion HasValidTable entries
+    → IsSound (applied_all a entries)
 IsSound-applied_all a [] is below valid = is
 IsSound-applied_all a (entry ∷ entries) is below valid =
     IsSound-applied_all (applied a entry) entries (IsSound-applied a entry is (omega arith) valid.0) (omega arith) valid.1
 
 -- after any list of entries, from the first window on
-pub IsSound-fold_of : (rounds : ℕ) (rows : List Row) (entries : List Entry) → 1 ≤ rounds → rounds ≤ 1024 → IsTable rows → length entries ≤ 1000000 → AllByRecursion HasValidTable entries → IsSound (fold_of (first_of rounds rows) entries)
+pub IsSound-fold_of : (rounds : ℕ) (rows : List Row) (entries : List Entry) → 1 ≤ rounds → rounds ≤ 1024 → IsTable rows → length entries ≤ 1000000
+    → AllByRecursion HasValidTable entries → IsSound (fold_of (first_of rounds rows) entries)
 IsSound-fold_of rounds rows entries some most table below valid =
     IsSound-applied_all (agreement_from (first_of rounds rows)) entries (IsSound-first rounds rows some most table) (omega arith) valid

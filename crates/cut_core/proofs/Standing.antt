@@ -17,7 +17,7 @@ use Rattle.cut_core.specs.declared.agreed.Agreed.TheInside.{Inside}
 use Rattle.cut_core.specs.Agreements.{Agreement, count_of, is_gone}
 use Rattle.cut_core.specs.Map.{located, placed, covered_locals}
 use Rattle.cut_core.specs.Soundness.{IsSound, HasFinalEnds}
-use Rattle.cut_core.specs.Agreed.{owners_in, numbers_in, AreOver, agreement_of, IsAgreed, window_from, IsPast, StandsIn, IsPastLocal, HasLocal}
+use Rattle.cut_core.specs.Insides.{owners_in, numbers_in, AreOver, agreement_of, IsAgreed, window_from, IsPast, StandsIn, IsPastLocal, HasLocal}
 use Rattle.cut_core.proofs.Dense.{IsDense, placed-located, slice_get-index_of, index_of-dense}
 use Rattle.cut_core.proofs.Finding.{slice_get-window, index_of-window, count_of-front, dense-found, index_of-dense_past}
 use Rattle.cut_core.proofs.Pasts.{covered_by, covered_by-split, numbers_by-split, length-numbers_in, Grows, IsKeyOf, IsFoundAt, rising, found_at}
@@ -40,7 +40,8 @@ locals-key past shard over below = λ at p e. (over at p e).ends shard below
 
 -- ---- the covered positions, around the window that a search finds
 
-around : (past : List Past) (current : List Owner) (at : ℕ) (p : Past) → slice_get past at ≡ Some p → flat_map owners_in past ++ current ≡ covered_by at past ++ (owners_in p ++ (flat_map owners_in (drop (suc at) past) ++ current))
+around : (past : List Past) (current : List Owner) (at : ℕ) (p : Past) → slice_get past at ≡ Some p
+    → flat_map owners_in past ++ current ≡ covered_by at past ++ (owners_in p ++ (flat_map owners_in (drop (suc at) past) ++ current))
 around past current at p e =
     let before = covered_by at past in
     let after = flat_map owners_in (drop (suc at) past) in
@@ -48,7 +49,8 @@ around past current at p e =
     ∙ append_assoc before (owners_in p ++ after) current
     ∙ ap (λ t. before ++ t) (append_assoc (owners_in p) after current)
 
-numbers_around : (past : List Past) (current : List ℕ) (at : ℕ) (p : Past) → slice_get past at ≡ Some p → flat_map numbers_in past ++ current ≡ flat_map numbers_in (take at past) ++ (numbers_in p ++ (flat_map numbers_in (drop (suc at) past) ++ current))
+numbers_around : (past : List Past) (current : List ℕ) (at : ℕ) (p : Past) → slice_get past at ≡ Some p
+    → flat_map numbers_in past ++ current ≡ flat_map numbers_in (take at past) ++ (numbers_in p ++ (flat_map numbers_in (drop (suc at) past) ++ current))
 numbers_around past current at p e =
     let before = flat_map numbers_in (take at past) in
     let after = flat_map numbers_in (drop (suc at) past) in
@@ -61,7 +63,8 @@ slice_get-replicate zero number i h = absurd (omega arith)
 slice_get-replicate (suc count) number zero h = refl
 slice_get-replicate (suc count) number (suc i) h = slice_get-replicate count number i (omega arith)
 
-slice_get-numbers : (before after : List ℕ) (count number p : ℕ) → length before ≤ p → p < length before + count → slice_get (before ++ (replicate count number ++ after)) p ≡ Some number
+slice_get-numbers : (before after : List ℕ) (count number p : ℕ) → length before ≤ p → p < length before + count
+    → slice_get (before ++ (replicate count number ++ after)) p ≡ Some number
 slice_get-numbers before after count number p from below =
     let at = p - length before in
     let split : p ≡ length before + at = omega arith in
@@ -76,6 +79,24 @@ current-base i is =
     omega (arith, is.sound.covered, length-append (flat_map owners_in i.past.items) (rounds_from i.current.spots 0 i.rounds), length-rounds_from i.current.spots 0 i.rounds)
 
 -- ---- the window of a position
+
+-- a covered position past all windows that are over stands in the current one
+stands_in_current : (i : Inside) (position : ℕ) → IsAgreed i → position < length (agreement_of i).covered → length (flat_map owners_in i.past.items) ≤ position
+    → StandsIn (agreement_of i) position i.current
+stands_in_current i position is within high =
+    let past = i.past.items in
+    let before = flat_map owners_in past in
+    let seen = rounds_from i.current.spots 0 i.rounds in
+    let count = i.rounds * width_of i.current in
+    let numbers = replicate count i.current.number in
+    let base = current-base i is in
+    let sizes = length-numbers_in past in
+    record {
+      valid = is.sound.window;
+      owner = ap (λ t. slice_get (before ++ t) position) (sym (append-nil seen)) ∙ slice_get-window i.current i.rounds before [] position (omega (arith, is.sound.short)) base high within;
+      number = ap (λ t. slice_get (flat_map numbers_in past ++ t) position) (sym (append-nil numbers))
+          ∙ slice_get-numbers (flat_map numbers_in past) [] count i.current.number position (omega arith) (omega (arith, is.sound.covered));
+    }
 
 stands_by : (i : Inside) (position at : ℕ) (found : Option Past) → IsAgreed i → position < length (agreement_of i).covered → slice_get i.past.items at ≡ found
     → length (covered_by at i.past.items) ≤ position
@@ -94,22 +115,10 @@ stands_by i position at (Some p) is within e low high =
           ∙ slice_get-numbers (flat_map numbers_in (take at past)) (flat_map numbers_in (drop (suc at) past) ++ replicate (i.rounds * width_of i.current) i.current.number) count p.window.number position (omega arith)
           (omega (arith, length-append (covered_by at past) (owners_in p), length-rounds_from p.window.spots 0 p.rounds));
     }
-stands_by i position at None is within e low high =
-    let past = i.past.items in
-    let before = flat_map owners_in past in
-    let seen = rounds_from i.current.spots 0 i.rounds in
-    let count = i.rounds * width_of i.current in
-    let numbers = replicate count i.current.number in
-    let base = current-base i is in
-    let sizes = length-numbers_in past in
-    record {
-      valid = is.sound.window;
-      owner = ap (λ t. slice_get (before ++ t) position) (sym (append-nil seen)) ∙ slice_get-window i.current i.rounds before [] position (omega (arith, is.sound.short)) base high within;
-      number = ap (λ t. slice_get (flat_map numbers_in past ++ t) position) (sym (append-nil numbers))
-          ∙ slice_get-numbers (flat_map numbers_in past) [] count i.current.number position (omega arith) (omega (arith, is.sound.covered));
-    }
+stands_by i position at None is within e low high = stands_in_current i position is within high
 
-pub stands_in : (i : Inside) (position at : ℕ) → IsAgreed i → position < length (agreement_of i).covered → IsFoundAt length i.past.items position at → StandsIn (agreement_of i) position (window_from i.past.items at i.current)
+pub stands_in : (i : Inside) (position at : ℕ) → IsAgreed i → position < length (agreement_of i).covered → IsFoundAt length i.past.items position at
+    → StandsIn (agreement_of i) position (window_from i.past.items at i.current)
 stands_in i position at is within found = stands_by i position at (slice_get i.past.items at) is within refl found.0 found.1
 
 pub length-numbers : (i : Inside) → length (agreement_of i).numbers ≡ length (agreement_of i).covered
@@ -136,7 +145,8 @@ placed-some a shard local is below =
     let found = dense-found a.covered shard local (is.dense shard) below in
     is_some (placed a shard local) found.0 (index_of-dense a.covered shard local found.0 0 (count_of shard a.covered) (is.dense shard) found.1)
 
-local_by : (i : Inside) (shard local at : ℕ) (found : Option Past) → IsAgreed i → local < covered_locals (agreement_of i) shard → slice_get i.past.items at ≡ found
+local_by : (i : Inside) (shard local at : ℕ) (found : Option Past) → IsAgreed i → local < covered_locals (agreement_of i) shard
+    → slice_get i.past.items at ≡ found
     → count_of shard (covered_by at i.past.items) ≤ local
     → MatchOption found (count_of shard (flat_map owners_in i.past.items) ≤ local) (λ p. local < count_of shard (covered_by at i.past.items ++ owners_in p))
     → HasLocal (agreement_of i) shard local (unwrap_or (option_map (λ (p : Past). p.window) found) i.current)
@@ -160,7 +170,8 @@ local_by i shard local at None is within e low high =
           ∙ index_of-window i.current i.rounds before [] shard local is.sound.window (omega (arith, is.sound.short)) (current-base i is) (subst (IsDense shard) parts (is.sound.dense shard)) high within;
     }
 
-pub has_local : (i : Inside) (shard local at : ℕ) → IsAgreed i → local < covered_locals (agreement_of i) shard → IsFoundAt (count_of shard) i.past.items local at → HasLocal (agreement_of i) shard local (window_from i.past.items at i.current)
+pub has_local : (i : Inside) (shard local at : ℕ) → IsAgreed i → local < covered_locals (agreement_of i) shard
+    → IsFoundAt (count_of shard) i.past.items local at → HasLocal (agreement_of i) shard local (window_from i.past.items at i.current)
 has_local i shard local at is within found = local_by i shard local at (slice_get i.past.items at) is within refl found.0 found.1
 
 pub is_past_local : (a : Agreement) (shard local : ℕ) → IsSound a → covered_locals a shard ≤ local → IsPastLocal a shard local
@@ -175,7 +186,8 @@ place_by a p (Some o) is e = placed-located a p o is e
 pub located-IfSome : (a : Agreement) (p : ℕ) → IsSound a → IfSome (located a p) (λ o. placed a o.shard o.local ≡ Some p)
 located-IfSome a p is = place_by a p (located a p) is refl
 
-owner_by : (a : Agreement) (shard local : ℕ) (found : Option ℕ) → placed a shard local ≡ found → IfSome found (λ p. located a p ≡ Some (record { shard = shard; local = local }))
+owner_by : (a : Agreement) (shard local : ℕ) (found : Option ℕ) → placed a shard local ≡ found
+    → IfSome found (λ p. located a p ≡ Some (record { shard = shard; local = local }))
 owner_by a shard local None e = tt
 owner_by a shard local (Some p) e = slice_get-index_of a.covered shard local p e
 
@@ -195,11 +207,13 @@ pub rising_ends : (i : Inside) (past : List Past) → IsAgreed i → past ≡ i.
 rising_ends i past is same =
     subst (IsNonDecreasingBy (λ (p : Past). p.end)) (sym same) (rising length (λ (p : Past). p.end) i.past.items grows-length (ends-key i.past.items is.over))
 
-pub rising_locals : (i : Inside) (past : List Past) (shard : ℕ) → IsAgreed i → past ≡ i.past.items → shard < 6 → IsNonDecreasingBy (λ (p : Past). slice_index p.ends shard) past
+pub rising_locals : (i : Inside) (past : List Past) (shard : ℕ) → IsAgreed i → past ≡ i.past.items → shard < 6
+    → IsNonDecreasingBy (λ (p : Past). slice_index p.ends shard) past
 rising_locals i past shard is same below =
     subst (IsNonDecreasingBy (λ (p : Past). slice_index p.ends shard)) (sym same) (rising (count_of shard) (λ (p : Past). slice_index p.ends shard) i.past.items (grows-count shard) (locals-key i.past.items shard is.over below))
 
-pub window-found : (i : Inside) (a : Agreement) (position at : ℕ) (past again : List Past) (w : Window) → agreement_of i ≡ a → IsAgreed i → position < length a.covered → past ≡ i.past.items → again ≡ i.past.items → at ≤ length past
+pub window-found : (i : Inside) (a : Agreement) (position at : ℕ) (past again : List Past) (w : Window) → agreement_of i ≡ a → IsAgreed i
+    → position < length a.covered → past ≡ i.past.items → again ≡ i.past.items → at ≤ length past
     → IsPartitionPoint (λ (p : Past). nat_le p.end position ≡ true) (λ (p : Past). nat_le p.end position ≡ false) past at
     → w ≡ window_from again at i.current → StandsIn a position w
 window-found i a position at past again w view is within same twice bound point from =
@@ -210,11 +224,19 @@ window-found i a position at past again w view is within same twice bound point 
     let stands = stands_in i position at is (omega arith) found in
     subst (StandsIn a position) (sym (from ∙ ap (λ ps. window_from ps at i.current) twice)) (subst (λ (b : Agreement). StandsIn b position (window_from i.past.items at i.current)) view stands)
 
+pub current-found : (i : Inside) (a : Agreement) (position : ℕ) → agreement_of i ≡ a → IsAgreed i → position < length a.covered → i.current.base ≤ position
+    → StandsIn a position i.current
+current-found i a position view is within from =
+    let covered = ap (λ (b : Agreement). length b.covered) view in
+    let stands = stands_in_current i position is (omega arith) (omega (arith, current-base i is)) in
+    subst (λ (b : Agreement). StandsIn b position i.current) view stands
+
 pub past-position : (i : Inside) (a : Agreement) (position : ℕ) → agreement_of i ≡ a → length a.covered ≤ position → IsPast a position
 past-position i a position view past =
     subst (λ (b : Agreement). IsPast b position) view (is_past i position (omega (arith, ap (λ (b : Agreement). length b.covered) view)))
 
-pub local-found : (i : Inside) (a : Agreement) (shard local at : ℕ) (past again : List Past) (w : Window) → agreement_of i ≡ a → IsAgreed i → shard < 6 → local < covered_locals a shard → past ≡ i.past.items → again ≡ i.past.items → at ≤ length past
+pub local-found : (i : Inside) (a : Agreement) (shard local at : ℕ) (past again : List Past) (w : Window) → agreement_of i ≡ a → IsAgreed i → shard < 6
+    → local < covered_locals a shard → past ≡ i.past.items → again ≡ i.past.items → at ≤ length past
     → IsPartitionPoint (λ (p : Past). nat_le (slice_index p.ends shard) local ≡ true) (λ (p : Past). nat_le (slice_index p.ends shard) local ≡ false) past at
     → w ≡ window_from again at i.current → HasLocal a shard local w
 local-found i a shard local at past again w view is below within same twice bound point from =

@@ -6,7 +6,7 @@ use Rattle.quota_table.specs.Rows.{IsTable}
 use Rattle.quota_table.specs.declared.entry.Entry.{Entry}
 use Rattle.quota_table.specs.declared.entry.Entry.TheVariants.{Nothing, Cut, Table, Remove}
 use Rattle.fix_ante.specs.declared.spots.Spot.{Spot}
-use Rattle.fix_ante.specs.Windows.{Window, has_row, width_of, next_of, without_of}
+use Rattle.fix_ante.specs.Windows.{Window, has_row, width_of, window_after, without_of}
 use Rattle.fix_ante.specs.Layout.{round_of}
 use Rattle.cut_core.specs.declared.effects.Reason.{Reason}
 use Rattle.cut_core.specs.Agreements.{Agreement, Gone, agreement_from, count_of, is_last_round}
@@ -39,7 +39,7 @@ after_cut a = if is_last_round a then open_granted (with_round a) a.granted else
 
 -- a window is granted; its number is one more than the slot of its entry
 abbrev pub after_table : Agreement → ℕ → List Row → Agreement
-after_table a rounds rows = record a { granted = Some (next_of a.current (a.slots + 1) rounds rows) }
+after_table a rounds rows = record a { granted = Some (window_after a.current (a.slots + 1) rounds rows) }
 
 -- a shard is gone, and the rest of its window is laid out anew without it
 abbrev pub after_remove : Agreement → ℕ → Agreement

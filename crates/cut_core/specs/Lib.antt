@@ -3,7 +3,7 @@ pub mod Reasons
 pub mod Fold
 pub mod Effects
 pub mod Map
-pub mod Agreeing
+pub mod MapsAgree
 pub mod Soundness
-pub mod Agreed
+pub mod Insides
 pub mod Consistency

@@ -28,8 +28,8 @@ abbrev pub granted_fault : Option Window → Option Reason → Option Reason
 granted_fault None later = later
 granted_fault (Some granted) later = Some (AlreadyGranted granted.number)
 
-abbrev pub table_fault : Agreement → ℕ → List Row → Option Reason
-table_fault a after rows =
+abbrev pub grant_reason : Agreement → ℕ → List Row → Option Reason
+grant_reason a after rows =
     if not (after == a.current.number) then Some (WrongWindow a.current.number)
     else granted_fault a.granted (gone_fault (gone_row a rows))
 
@@ -44,5 +44,5 @@ remove_fault a window shard =
 abbrev pub fault_of : Agreement → Entry → Option Reason
 fault_of a Nothing = None
 fault_of a (Cut window round) = cut_fault a window round
-fault_of a (Table after rounds rows) = table_fault a after rows
+fault_of a (Table after rounds rows) = grant_reason a after rows
 fault_of a (Remove window shard) = remove_fault a window shard

@@ -1,7 +1,7 @@
 -- What holds of the state after every list of entries, as its proofs carry it.
-use Rattle.std.specs.Prelude.{ℕ, ◌≡◌, ◌<◌, ◌≤◌, ◌+◌, ◌*◌, true, false, nat_eq, length, map, Option, Some, None}
+use Rattle.std.specs.Prelude.{ℕ, ◌≡◌, ◌<◌, ◌≤◌, ◌*◌, true, false, nat_eq, length, map, Option, Some, None}
 use Rattle.std.specs.List.{AllByRecursion, IsDistinct, range_with_len}
-use Rattle.fix_ante.specs.Windows.{Window, IsWindow, has_row, width_of, end_of, start_after}
+use Rattle.fix_ante.specs.Windows.{Window, IsWindow, has_row, end_after, end_of, start_after}
 use Rattle.fix_ante.specs.Locals.{locals_of}
 use Rattle.cut_core.specs.Agreements.{Agreement, Gone, count_of, is_gone}
 
@@ -10,7 +10,8 @@ pub record IsFirst (w : Window) : Type 0 where
   pub number : w.number ≡ 0
   pub base : w.base ≡ 0
 
--- a granted window follows all rounds of the current one, and no shard of it is gone
+-- a granted window follows all rounds of the current one: each of its shards goes on after that one, or from 0 where it
+-- was no row of it, and none is gone
 pub record IsGrant (a : Agreement) (w : Window) : Type 0 where
   pub window : IsWindow w
   pub base : w.base ≡ end_of a.current
@@ -25,7 +26,7 @@ MayBeGrant a (Some w) = IsGrant a w
 pub record IsSound (a : Agreement) : Type 0 where
   pub window : IsWindow a.current
   pub short : a.rounds < a.current.rounds
-  pub covered : length a.covered ≡ a.current.base + a.rounds * width_of a.current
+  pub covered : length a.covered ≡ end_after a.current a.rounds
   pub starts : (shard : ℕ) → is_gone a shard ≡ false → start_after a.current.spots a.rounds shard ≡ count_of shard a.covered
   pub dense : (shard : ℕ) → locals_of shard a.covered ≡ range_with_len 0 (count_of shard a.covered)
   pub rows : (shard : ℕ) → has_row shard a.current.spots ≡ true → is_gone a shard ≡ false

@@ -7,7 +7,7 @@ ghost use Rattle.cut_core.specs.Map.{located, placed, covered_locals, gone_end};
 ghost use Rattle.cut_core.specs.Effects.{effect_of, ends_window};
 ghost use Rattle.cut_core.specs.Fold.{applied, HasValidTable};
 ghost use Rattle.cut_core.specs.Soundness.{IsFirst, IsSound};
-ghost use Rattle.cut_core.specs.Agreed.{IsPast, StandsIn, IsPastLocal, HasLocal};
+ghost use Rattle.cut_core.specs.Insides.{IsPast, StandsIn, IsPastLocal, HasLocal};
 
 mod faults;
 mod steps;
@@ -46,7 +46,7 @@ impl Model for Agreed {
 
     ghost Value = { Agreement };
 
-    ghost use Rattle.cut_core.specs.Agreed.{agreement_of, IsAgreed};
+    ghost use Rattle.cut_core.specs.Insides.{agreement_of, IsAgreed};
 
     ghost view = { agreement_of };
 
@@ -153,6 +153,7 @@ impl Agreed {
     }
 
     /// Who has a covered position. None exactly at or past the covered ones.
+    #[inline(always)]
     pub fn locate(&self, position: u64) -> Option<Owner>
         ensures owner { result ≡ located self.now position }
         ensures within { IsSome result ↔ (position < length self.now.covered) }
@@ -163,6 +164,7 @@ impl Agreed {
     }
 
     /// The position of a covered local. None exactly at or past the shard's covered locals.
+    #[inline(always)]
     pub fn place(&self, shard: u8, local: u64) -> Option<u64>
         ensures place { result ≡ placed self.now shard local }
         ensures within { IsSome result ↔ (local < covered_locals self.now shard) }
@@ -189,6 +191,10 @@ impl Agreed {
         let past = &self.past;
         if position >= self.covered() {
             return None;
+        }
+        // Most positions that are looked up stand in the current window: they need no search.
+        if position >= self.current.base() {
+            return Some(&self.current);
         }
         let over = count_to_position(past, position);
         Some(window_from(past, over, &self.current))

@@ -1,6 +1,6 @@
 //! Laws of the agreed fold, over its definitions alone.
 ghost use Rattle.fix_ante.specs.Windows.{Window};
-ghost use Rattle.cut_core.specs.Agreeing.{MapsAgree, CoveredStays, FoldsByEntry};
+ghost use Rattle.cut_core.specs.MapsAgree.{MapsAgree, CoveredStays, FoldsByEntry};
 ghost use Rattle.cut_core.specs.Consistency.{FoldsAreConsistent, FoldsAreContinued};
 
 /// After more entries the map has the owner that it had at each position below the first of every removal between.

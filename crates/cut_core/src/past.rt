@@ -1,8 +1,7 @@
 ghost use Rattle.std.specs.Prelude.{◌≡◌, ℕ, ◌<◌, ◌≤◌, nat_le, true, false, length, slice_index};
 ghost use Rattle.std.specs.List.Sorted.{IsNonDecreasingBy, IsPartitionPoint};
 ghost use Rattle.cut_core.specs.declared.past.Past.{Past as PastOf};
-ghost use Rattle.fix_ante.specs.Windows.{start_after};
-ghost use Rattle.cut_core.specs.Agreed.{local_end, window_from};
+ghost use Rattle.cut_core.specs.Insides.{local_end, window_from};
 
 use crate::gone::{Gone, end_among};
 use fix_ante::Window;
@@ -67,19 +66,6 @@ pub fn local_end(window: &Window, rounds: u16, gone: &[Gone], shard: u8) -> u64
 {
     match end_among(gone, shard) {
         Some(end) => end,
-        None => start_after(window, rounds, shard),
+        None => window.start_after(rounds, shard),
     }
-}
-
-/// Where the shard's locals go on after the first rounds of the window: 0 where it is no row.
-fn start_after(window: &Window, rounds: u16, shard: u8) -> u64
-    requires { rounds ≤ 1024 }
-    ensures { result ≡ start_after window.now.spots rounds shard }
-{
-    for spot in window.spots() {
-        if spot.shard == shard {
-            return spot.start + u64::from(rounds) * u64::from(spot.quota);
-        }
-    }
-    0
 }

@@ -33,7 +33,8 @@ own_test : (shard local : ℕ) → ((shard == shard) && (local == local)) ≡ tr
 own_test shard local = let a = eq-eqb shard shard refl in let b = eq-eqb local local refl in rw (a, b)
 
 -- an owner's index is the only place where it stands
-pub index_of_only : (os : List Owner) (shard local i : ℕ) → slice_get os i ≡ Some (record { shard = shard; local = local }) → ((j : ℕ) → slice_get os j ≡ Some (record { shard = shard; local = local }) → j ≡ i) → index_of os shard local ≡ Some i
+pub index_of_only : (os : List Owner) (shard local i : ℕ) → slice_get os i ≡ Some (record { shard = shard; local = local })
+    → ((j : ℕ) → slice_get os j ≡ Some (record { shard = shard; local = local }) → j ≡ i) → index_of os shard local ≡ Some i
 index_of_only [] shard local i e only = absurd (cc)
 index_of_only (o ∷ os) shard local zero e only =
     let is : o ≡ record { shard = shard; local = local } = cc in
@@ -45,7 +46,8 @@ index_of_only (o ∷ os) shard local (suc i) e only =
     ]
 
 -- an owner that stands nowhere has no index
-pub index_of_none : (os : List Owner) (shard local : ℕ) → ((j : ℕ) → slice_get os j ≢ Some (record { shard = shard; local = local })) → index_of os shard local ≡ None
+pub index_of_none : (os : List Owner) (shard local : ℕ) → ((j : ℕ) → slice_get os j ≢ Some (record { shard = shard; local = local }))
+    → index_of os shard local ≡ None
 index_of_none [] shard local nowhere = refl
 index_of_none (o ∷ os) shard local nowhere =
     elim (cases_Bool ((o.shard == shard) && (o.local == local))) [

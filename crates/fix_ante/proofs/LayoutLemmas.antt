@@ -41,7 +41,8 @@ rounds_from-add spots round (suc m) n =
     rw (count, at) (ap (λ t. round_of spots round ++ t) (rounds_from-add spots (suc round) m n) ∙ sym (append_assoc (round_of spots round) (rounds_from spots (suc round) m) (rounds_from spots (suc round + m) n)))
 
 -- the next local but i of a shard
-pub slice_get-owners_from : (shard local count i : ℕ) → i < count → slice_get (owners_from shard local count) i ≡ Some (record { shard = shard; local = local + i })
+pub slice_get-owners_from : (shard local count i : ℕ) → i < count
+    → slice_get (owners_from shard local count) i ≡ Some (record { shard = shard; local = local + i })
 slice_get-owners_from shard local zero i h = absurd (omega arith)
 slice_get-owners_from shard local (suc count) zero h = let at : local ≡ local + zero = omega arith in ap (λ n. Some (record { shard = shard; local = n })) at
 slice_get-owners_from shard local (suc count) (suc i) h =
@@ -62,7 +63,8 @@ slice_get-round_of (s ∷ ss) round at =
     ]
 
 -- who has a place in a round of several
-pub slice_get-rounds_from : (spots : List Spot) (from count round at : ℕ) → round < count → at < quotas_of (rows_of spots) → slice_get (rounds_from spots from count) (round * quotas_of (rows_of spots) + at) ≡ owner_among spots (from + round) at
+pub slice_get-rounds_from : (spots : List Spot) (from count round at : ℕ) → round < count → at < quotas_of (rows_of spots)
+    → slice_get (rounds_from spots from count) (round * quotas_of (rows_of spots) + at) ≡ owner_among spots (from + round) at
 slice_get-rounds_from spots from zero round at h k = absurd (omega arith)
 slice_get-rounds_from spots from (suc count) zero at h k =
     let index : zero * quotas_of (rows_of spots) + at ≡ at = omega arith in

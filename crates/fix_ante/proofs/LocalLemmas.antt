@@ -40,7 +40,8 @@ locals_of-append shard (o ∷ os) ys =
       | inr other ↦ rw (locals_of_other o os shard other) (locals_of_other o (os ++ ys) shard other ∙ locals_of-append shard os ys)
     ]
 
-pub locals_of-owners_from_own : (shard other local count : ℕ) → (shard == other) ≡ true → locals_of other (owners_from shard local count) ≡ range_with_len local count
+pub locals_of-owners_from_own : (shard other local count : ℕ) → (shard == other) ≡ true
+    → locals_of other (owners_from shard local count) ≡ range_with_len local count
 locals_of-owners_from_own shard other local zero same = refl
 locals_of-owners_from_own shard other local (suc count) same =
     locals_of_own (record { shard = shard; local = local }) (owners_from shard (suc local) count) other same
@@ -59,7 +60,8 @@ quota_of_later : (s : Spot) (ss : List Spot) (shard : ℕ) → (s.shard == shard
 quota_of_later s ss shard other = cond-false _ _ _ other
 
 -- a shard that is no row has no position, and its locals begin at 0
-pub absent_row : (spots : List Spot) (rounds shard : ℕ) → has_shard shard (rows_of spots) ≡ false → (quota_of spots shard ≡ 0) × (start_after spots rounds shard ≡ 0)
+pub absent_row : (spots : List Spot) (rounds shard : ℕ) → has_shard shard (rows_of spots) ≡ false
+    → (quota_of spots shard ≡ 0) × (start_after spots rounds shard ≡ 0)
 absent_row [] rounds shard h = (refl, refl)
 absent_row (s ∷ ss) rounds shard h =
     let parts = or_parts (s.shard == shard) (has_shard shard (rows_of ss)) h in
@@ -75,13 +77,15 @@ absent-round_of (s ∷ ss) round shard h =
     ∙ absent-round_of ss round shard parts.1
 
 -- the shard of the first row is no later one's
-absent_later : (s : Spot) (ss : List Spot) (shard : ℕ) → is_distinct (rows_of (s ∷ ss)) ≡ true → (s.shard == shard) ≡ true → has_shard shard (rows_of ss) ≡ false
+absent_later : (s : Spot) (ss : List Spot) (shard : ℕ) → is_distinct (rows_of (s ∷ ss)) ≡ true → (s.shard == shard) ≡ true
+    → has_shard shard (rows_of ss) ≡ false
 absent_later s ss shard distinct same =
     let parts = and_parts _ (is_distinct (rows_of ss)) distinct in
     ap (λ n. has_shard n (rows_of ss)) (sym (eqb-true s.shard shard same)) ∙ not-true _ parts.0
 
 -- in a round a shard has its next q locals
-pub locals_of-round_of : (spots : List Spot) (round shard : ℕ) → is_distinct (rows_of spots) ≡ true → locals_of shard (round_of spots round) ≡ range_with_len (start_after spots round shard) (quota_of spots shard)
+pub locals_of-round_of : (spots : List Spot) (round shard : ℕ) → is_distinct (rows_of spots) ≡ true
+    → locals_of shard (round_of spots round) ≡ range_with_len (start_after spots round shard) (quota_of spots shard)
 locals_of-round_of [] round shard distinct = refl
 locals_of-round_of (s ∷ ss) round shard distinct =
     let own = owners_from s.shard (s.start + round * s.quota) s.quota in
@@ -111,7 +115,8 @@ start_after-add (s ∷ ss) m n shard =
     ]
 
 -- in so many rounds a shard has its next locals, one after another
-pub locals_of-rounds_from : (spots : List Spot) (round count shard : ℕ) → is_distinct (rows_of spots) ≡ true → locals_of shard (rounds_from spots round count) ≡ range_with_len (start_after spots round shard) (count * quota_of spots shard)
+pub locals_of-rounds_from : (spots : List Spot) (round count shard : ℕ) → is_distinct (rows_of spots) ≡ true
+    → locals_of shard (rounds_from spots round count) ≡ range_with_len (start_after spots round shard) (count * quota_of spots shard)
 locals_of-rounds_from spots round zero shard distinct =
     let none : zero * quota_of spots shard ≡ zero = omega arith in
     rw none
@@ -130,7 +135,8 @@ locals_of-rounds_from spots round (suc count) shard distinct =
 -- ---- where the locals of a window that follows go on
 
 -- a row of the window that follows begins where its shard goes on
-pub start_after-spots_from : (start : ℕ → ℕ) (rows : List Row) (rounds shard : ℕ) → has_shard shard rows ≡ true → start_after (spots_from start rows) rounds shard ≡ start shard + rounds * quota_of (spots_from start rows) shard
+pub start_after-spots_from : (start : ℕ → ℕ) (rows : List Row) (rounds shard : ℕ) → has_shard shard rows ≡ true
+    → start_after (spots_from start rows) rounds shard ≡ start shard + rounds * quota_of (spots_from start rows) shard
 start_after-spots_from start [] rounds shard h = absurd (cc)
 start_after-spots_from start (r ∷ rs) rounds shard h =
     let s : Spot = record { shard = r.shard; quota = r.quota; start = start r.shard } in
@@ -144,7 +150,8 @@ start_after-spots_from start (r ∷ rs) rounds shard h =
     ]
 
 -- another shard than the one that left goes on where the covered rounds leave it
-pub start_after-spots_without : (spots : List Spot) (covered gone rounds shard : ℕ) → (gone == shard) ≡ false → (start_after (spots_without spots covered gone) rounds shard ≡ start_after spots (covered + rounds) shard) × (quota_of (spots_without spots covered gone) shard ≡ quota_of spots shard)
+pub start_after-spots_without : (spots : List Spot) (covered gone rounds shard : ℕ) → (gone == shard) ≡ false
+    → (start_after (spots_without spots covered gone) rounds shard ≡ start_after spots (covered + rounds) shard) × (quota_of (spots_without spots covered gone) shard ≡ quota_of spots shard)
 start_after-spots_without [] covered gone rounds shard apart = (refl, refl)
 start_after-spots_without (s ∷ ss) covered gone rounds shard apart =
     let rest = start_after-spots_without ss covered gone rounds shard apart in

@@ -3,21 +3,22 @@ use Rattle.std.proofs.Common.{◌≡◌, ◌≢◌, ℕ, ◌+◌, ◌-◌, ◌*�
 use Rattle.std.specs.List.{list_all}
 use Rattle.std.proofs.lemmas.Bool.{cases_lt, cases_Bool, cond-true, cond-false, lt-ltb, le-ltb, eqb-true, both_ways}
 use Rattle.quota_table.specs.Rows.{is_row}
-use Rattle.quota_table.specs.Tables.{quotas_of}
+use Rattle.quota_table.specs.Tables.{quotas_of, quotas_before}
 use Rattle.quota_table.proofs.TableLemmas.{row_bounds}
 use Rattle.fix_ante.specs.declared.spots.Spot.{Spot}
 use Rattle.fix_ante.specs.declared.spots.Owner.{Owner}
 use Rattle.fix_ante.specs.Windows.{Window, IsWindow, row_of, rows_of, has_row, width_of, spots_without, without_of}
 use Rattle.fix_ante.specs.Layout.{owner_of}
 use Rattle.fix_ante.specs.Positions.{owner_among}
-use Rattle.fix_ante.specs.Moves.{owner_after, IsFirstMoved, quotas_before, first_failed_of}
+use Rattle.fix_ante.specs.Moves.{owner_after, IsFirstMoved, first_failed_of}
 use Rattle.fix_ante.proofs.PositionLemmas.{owner_among_here, owner_among_past, owner_of-round, owner_of-has_shard}
 use Rattle.fix_ante.proofs.Successors.{spots_without_other, left-spots_without}
 
-quotas_before_here : (s : Spot) (ss : List Spot) (shard : ℕ) → (s.shard == shard) ≡ true → quotas_before (s ∷ ss) shard ≡ 0
+quotas_before_here : (s : Spot) (ss : List Spot) (shard : ℕ) → (s.shard == shard) ≡ true → quotas_before (rows_of (s ∷ ss)) shard ≡ 0
 quotas_before_here s ss shard same = cond-true _ _ _ same
 
-quotas_before_later : (s : Spot) (ss : List Spot) (shard : ℕ) → (s.shard == shard) ≡ false → quotas_before (s ∷ ss) shard ≡ s.quota + quotas_before ss shard
+quotas_before_later : (s : Spot) (ss : List Spot) (shard : ℕ) → (s.shard == shard) ≡ false
+    → quotas_before (rows_of (s ∷ ss)) shard ≡ s.quota + quotas_before (rows_of ss) shard
 quotas_before_later s ss shard other = cond-false _ _ _ other
 
 -- a shard that the first row isn't is a later row's
@@ -25,7 +26,8 @@ later_row : (s : Spot) (ss : List Spot) (shard : ℕ) → (s.shard == shard) ≡
 later_row s ss shard other h = sym (ap (λ t. t || has_row shard ss) other) ∙ h
 
 -- the rows before a shard's stay as they are without it
-pub quotas_before-le : (spots : List Spot) (covered shard : ℕ) → has_row shard spots ≡ true → quotas_before spots shard ≤ quotas_of (rows_of (spots_without spots covered shard))
+pub quotas_before-le : (spots : List Spot) (covered shard : ℕ) → has_row shard spots ≡ true
+    → quotas_before (rows_of spots) shard ≤ quotas_of (rows_of (spots_without spots covered shard))
 quotas_before-le [] covered shard h = omega arith
 quotas_before-le (s ∷ ss) covered shard h =
     elim (cases_Bool (s.shard == shard)) [
@@ -37,7 +39,8 @@ quotas_before-le (s ∷ ss) covered shard h =
     ]
 
 -- a place before the shard's rows has one owner in a round, and in the first round without the shard
-pub owner_among-before : (spots : List Spot) (covered shard at : ℕ) → at < quotas_before spots shard → owner_among spots covered at ≡ owner_among (spots_without spots covered shard) 0 at
+pub owner_among-before : (spots : List Spot) (covered shard at : ℕ) → at < quotas_before (rows_of spots) shard
+    → owner_among spots covered at ≡ owner_among (spots_without spots covered shard) 0 at
 owner_among-before [] covered shard at h = absurd (omega arith)
 owner_among-before (s ∷ ss) covered shard at h =
     elim (cases_Bool (s.shard == shard)) [
@@ -56,7 +59,8 @@ owner_among-before (s ∷ ss) covered shard at h =
     ]
 
 -- the shard's first place in a round is in the round, and is the shard's
-pub owner_among-own : (spots : List Spot) (round shard : ℕ) → list_all is_row (rows_of spots) ≡ true → has_row shard spots ≡ true → (quotas_before spots shard < quotas_of (rows_of spots)) × (local : ℕ) × (owner_among spots round (quotas_before spots shard) ≡ Some (record { shard = shard; local = local }))
+pub owner_among-own : (spots : List Spot) (round shard : ℕ) → list_all is_row (rows_of spots) ≡ true → has_row shard spots ≡ true
+    → (quotas_before (rows_of spots) shard < quotas_of (rows_of spots)) × (local : ℕ) × (owner_among spots round (quotas_before (rows_of spots) shard) ≡ Some (record { shard = shard; local = local }))
 owner_among-own [] round shard within h = absurd (cc)
 owner_among-own (s ∷ ss) round shard within h =
     let bounds = row_bounds (row_of s) (rows_of ss) within in
@@ -69,23 +73,25 @@ owner_among-own (s ∷ ss) round shard within h =
           let before = quotas_before_later s ss shard other in
           let later = later_row s ss shard other h in
           let rest = owner_among-own ss round shard bounds.2 later in
-          let at : quotas_before (s ∷ ss) shard - s.quota ≡ quotas_before ss shard = omega arith in
-          (omega (arith, rest.0), rest.1, owner_among_past s ss round (quotas_before (s ∷ ss) shard) (omega arith) ∙ (ap (owner_among ss round) at ∙ rest.2))
+          let at : quotas_before (rows_of (s ∷ ss)) shard - s.quota ≡ quotas_before (rows_of ss) shard = omega arith in
+          (omega (arith, rest.0), rest.1, owner_among_past s ss round (quotas_before (rows_of (s ∷ ss)) shard) (omega arith) ∙ (ap (owner_among ss round) at ∙ rest.2))
     ]
 
 -- a shard that left has no position of the window without it
-pub owner_of-without_of : (w : Window) (number covered shard local p : ℕ) → owner_of (without_of w number covered shard) p ≢ Some (record { shard = shard; local = local })
+pub owner_of-without_of : (w : Window) (number covered shard local p : ℕ)
+    → owner_of (without_of w number covered shard) p ≢ Some (record { shard = shard; local = local })
 owner_of-without_of w number covered shard local p e =
     both_ways _ (left-spots_without w.spots covered shard) (owner_of-has_shard (without_of w number covered shard) p (record { shard = shard; local = local }) e)
 
 -- the first failed position is the least that the removal moves
-pub first_failed_of-first : (w : Window) (number covered shard : ℕ) → IsWindow w → has_row shard w.spots ≡ true → covered < w.rounds → IsFirstMoved (owner_of w) (owner_after w (without_of w number covered shard)) (first_failed_of w covered shard)
+pub first_failed_of-first : (w : Window) (number covered shard : ℕ) → IsWindow w → has_row shard w.spots ≡ true → covered < w.rounds
+    → IsFirstMoved (owner_of w) (owner_after w (without_of w number covered shard)) (first_failed_of w covered shard)
 first_failed_of-first w number covered shard is row below =
     let after = without_of w number covered shard in
     let own = owner_among-own w.spots covered shard is.table.within row in
     let others = quotas_before-le w.spots covered shard row in
     let width = width_of w in
-    let first = quotas_before w.spots shard in
+    let first = quotas_before (rows_of w.spots) shard in
     let mine : Owner = record { shard = shard; local = own.1 } in
     record {
       stays = λ p h. elim (cases_lt p after.base) [

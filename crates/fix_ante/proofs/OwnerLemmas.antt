@@ -15,7 +15,9 @@ use Rattle.fix_ante.specs.Positions.{owner_among}
 use Rattle.fix_ante.proofs.PositionLemmas.{owner_among_here, owner_among_past, owner_of_within, place_of-owner}
 
 -- a round's owner is of a shard from 0 to 5, and its local isn't past its position
-owner_among-limits : (base width : ℕ) (spots : List Spot) (round at : ℕ) (o : Owner) → list_all is_row (rows_of spots) ≡ true → list_all (λ (s : Spot). nat_le s.start base) spots ≡ true → quotas_of (rows_of spots) ≤ width → owner_among spots round at ≡ Some o → (o.shard < 6) × (o.local ≤ base + round * width + at)
+owner_among-limits : (base width : ℕ) (spots : List Spot) (round at : ℕ) (o : Owner) → list_all is_row (rows_of spots) ≡ true
+    → list_all (λ (s : Spot). nat_le s.start base) spots ≡ true → quotas_of (rows_of spots) ≤ width → owner_among spots round at ≡ Some o
+    → (o.shard < 6) × (o.local ≤ base + round * width + at)
 owner_among-limits base width [] round at o rows starts quotas e = absurd (cc)
 owner_among-limits base width (s ∷ ss) round at o rows starts quotas e =
     let row = and_parts (is_row (row_of s)) (list_all is_row (rows_of ss)) rows in

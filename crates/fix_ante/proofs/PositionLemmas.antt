@@ -17,7 +17,8 @@ use Rattle.fix_ante.proofs.Entries.{index_of_only, index_of_none}
 use Rattle.fix_ante.proofs.LayoutLemmas.{length-layout_of, slice_get-rounds_from}
 
 -- who has a place that the first row's quota reaches, and one past it
-pub owner_among_here : (s : Spot) (ss : List Spot) (round at : ℕ) → at < s.quota → owner_among (s ∷ ss) round at ≡ Some (record { shard = s.shard; local = s.start + round * s.quota + at })
+pub owner_among_here : (s : Spot) (ss : List Spot) (round at : ℕ) → at < s.quota
+    → owner_among (s ∷ ss) round at ≡ Some (record { shard = s.shard; local = s.start + round * s.quota + at })
 owner_among_here s ss round at here = cond-true _ _ _ (lt-ltb at s.quota here)
 
 pub owner_among_past : (s : Spot) (ss : List Spot) (round at : ℕ) → s.quota ≤ at → owner_among (s ∷ ss) round at ≡ owner_among ss round (at - s.quota)
@@ -36,7 +37,8 @@ owner_among-has_shard (s ∷ ss) round at o e =
     ]
 
 -- the row's local of a round and a place below its quota has that index
-pub index_in-at : (rounds width before : ℕ) (s : Spot) (round at : ℕ) → round < rounds → at < s.quota → index_in rounds width before s (s.start + round * s.quota + at) ≡ Some (round * width + before + at)
+pub index_in-at : (rounds width before : ℕ) (s : Spot) (round at : ℕ) → round < rounds → at < s.quota
+    → index_in rounds width before s (s.start + round * s.quota + at) ≡ Some (round * width + before + at)
 index_in-at rounds width before s round at h k =
     let local = s.start + round * s.quota + at in
     let ahead : local - s.start ≡ round * s.quota + at = omega arith in
@@ -55,7 +57,8 @@ positive m zero n h = absurd (omega arith)
 positive m (suc k) n h = omega arith
 
 -- an index that a row gives to a local tells the local's round and place
-pub index_in-is : (rounds width before : ℕ) (s : Spot) (local i : ℕ) → index_in rounds width before s local ≡ Some i → (round : ℕ) × (at : ℕ) × (round < rounds) × (at < s.quota) × (i ≡ round * width + before + at) × (local ≡ s.start + round * s.quota + at)
+pub index_in-is : (rounds width before : ℕ) (s : Spot) (local i : ℕ) → index_in rounds width before s local ≡ Some i
+    → (round : ℕ) × (at : ℕ) × (round < rounds) × (at < s.quota) × (i ≡ round * width + before + at) × (local ≡ s.start + round * s.quota + at)
 index_in-is rounds width before s local i e =
     let test = nat_le s.start local && nat_lt (local - s.start) (rounds * s.quota) in
     elim (cases_Bool test) [
@@ -71,14 +74,17 @@ index_in-is rounds width before s local i e =
     ]
 
 -- the first row is the shard's, or it isn't
-index_among_here : (rounds width before : ℕ) (s : Spot) (ss : List Spot) (shard local : ℕ) → s.shard ≡ shard → index_among rounds width before (s ∷ ss) shard local ≡ index_in rounds width before s local
+index_among_here : (rounds width before : ℕ) (s : Spot) (ss : List Spot) (shard local : ℕ) → s.shard ≡ shard
+    → index_among rounds width before (s ∷ ss) shard local ≡ index_in rounds width before s local
 index_among_here rounds width before s ss shard local same = cond-true _ _ _ (eq-eqb s.shard shard same)
 
-index_among_later : (rounds width before : ℕ) (s : Spot) (ss : List Spot) (shard local : ℕ) → (s.shard == shard) ≡ false → index_among rounds width before (s ∷ ss) shard local ≡ index_among rounds width (before + s.quota) ss shard local
+index_among_later : (rounds width before : ℕ) (s : Spot) (ss : List Spot) (shard local : ℕ) → (s.shard == shard) ≡ false
+    → index_among rounds width before (s ∷ ss) shard local ≡ index_among rounds width (before + s.quota) ss shard local
 index_among_later rounds width before s ss shard local other = cond-false _ _ _ other
 
 -- a shard that no later row has isn't that of a later row
-pub other_shard : (s : Spot) (ss : List Spot) (shard : ℕ) → is_distinct (rows_of (s ∷ ss)) ≡ true → has_shard shard (rows_of ss) ≡ true → (s.shard == shard) ≡ false
+pub other_shard : (s : Spot) (ss : List Spot) (shard : ℕ) → is_distinct (rows_of (s ∷ ss)) ≡ true → has_shard shard (rows_of ss) ≡ true
+    → (s.shard == shard) ≡ false
 other_shard s ss shard distinct has =
     let absent = not-true _ ((and_parts _ _ distinct).0) in
     elim (cases_Bool (s.shard == shard)) [
@@ -87,7 +93,8 @@ other_shard s ss shard distinct has =
     ]
 
 -- the owner of a place in a round has the index of that round and place
-pub index_among-owner : (rounds width before : ℕ) (spots : List Spot) (round at : ℕ) (o : Owner) → is_distinct (rows_of spots) ≡ true → round < rounds → owner_among spots round at ≡ Some o → index_among rounds width before spots o.shard o.local ≡ Some (round * width + before + at)
+pub index_among-owner : (rounds width before : ℕ) (spots : List Spot) (round at : ℕ) (o : Owner) → is_distinct (rows_of spots) ≡ true → round < rounds
+    → owner_among spots round at ≡ Some o → index_among rounds width before spots o.shard o.local ≡ Some (round * width + before + at)
 index_among-owner rounds width before [] round at o distinct h e = absurd (cc)
 index_among-owner rounds width before (s ∷ ss) round at o distinct h e =
     elim (cases_lt at s.quota) [
@@ -104,7 +111,8 @@ index_among-owner rounds width before (s ∷ ss) round at o distinct h e =
     ]
 
 -- an index that the rows give to a shard's local tells the round and the place in it
-pub index_among-is : (rounds width before : ℕ) (spots : List Spot) (shard local i : ℕ) → index_among rounds width before spots shard local ≡ Some i → (round : ℕ) × (at : ℕ) × (round < rounds) × (at < quotas_of (rows_of spots)) × (i ≡ round * width + before + at) × (owner_among spots round at ≡ Some (record { shard = shard; local = local }))
+pub index_among-is : (rounds width before : ℕ) (spots : List Spot) (shard local i : ℕ) → index_among rounds width before spots shard local ≡ Some i
+    → (round : ℕ) × (at : ℕ) × (round < rounds) × (at < quotas_of (rows_of spots)) × (i ≡ round * width + before + at) × (owner_among spots round at ≡ Some (record { shard = shard; local = local }))
 index_among-is rounds width before [] shard local i e = absurd (cc)
 index_among-is rounds width before (s ∷ ss) shard local i e =
     elim (cases_Bool (s.shard == shard)) [
@@ -131,7 +139,8 @@ slice_get-layout_of w i h =
     ∙ ap (λ n. owner_among w.spots n (i % width)) round
 
 -- an owner in a layout has by the rule the index at which it stands
-pub index_from_entry : (w : Window) (i : ℕ) (o : Owner) → IsWindow w → slice_get (layout_of w) i ≡ Some o → index_among w.rounds (width_of w) 0 w.spots o.shard o.local ≡ Some i
+pub index_from_entry : (w : Window) (i : ℕ) (o : Owner) → IsWindow w → slice_get (layout_of w) i ≡ Some o
+    → index_among w.rounds (width_of w) 0 w.spots o.shard o.local ≡ Some i
 index_from_entry w i o is e =
     let width = width_of w in
     let within : i < w.rounds * width = omega (arith, length-layout_of w, slice_get_within (layout_of w) i o e) in
@@ -142,7 +151,8 @@ index_from_entry w i o is e =
     ∙ ap (λ n. Some n) index
 
 -- where the rule gives an index to a local, the local's owner stands at that index
-pub entry_from_index : (w : Window) (shard local i : ℕ) → index_among w.rounds (width_of w) 0 w.spots shard local ≡ Some i → (i < w.rounds * width_of w) × (slice_get (layout_of w) i ≡ Some (record { shard = shard; local = local }))
+pub entry_from_index : (w : Window) (shard local i : ℕ) → index_among w.rounds (width_of w) 0 w.spots shard local ≡ Some i
+    → (i < w.rounds * width_of w) × (slice_get (layout_of w) i ≡ Some (record { shard = shard; local = local }))
 entry_from_index w shard local i e =
     let width = width_of w in
     let found = index_among-is w.rounds width 0 w.spots shard local i e in
@@ -151,14 +161,16 @@ entry_from_index w shard local i e =
     let round : 0 + found.0 ≡ found.0 = omega arith in
     (omega arith, ap (slice_get (layout_of w)) index ∙ slice_get-rounds_from w.spots 0 w.rounds found.0 found.1 found.2 found.3 ∙ (ap (λ n. owner_among w.spots n found.1) round ∙ found.5))
 
-index_of_from : (w : Window) (shard local : ℕ) (index : Option ℕ) → IsWindow w → index_among w.rounds (width_of w) 0 w.spots shard local ≡ index → index_of (layout_of w) shard local ≡ index
+index_of_from : (w : Window) (shard local : ℕ) (index : Option ℕ) → IsWindow w → index_among w.rounds (width_of w) 0 w.spots shard local ≡ index
+    → index_of (layout_of w) shard local ≡ index
 index_of_from w shard local None is e =
     index_of_none (layout_of w) shard local (λ j h. let there : None ≡ Some j = sym e ∙ index_from_entry w j (record { shard = shard; local = local }) is h in absurd (cc))
 index_of_from w shard local (Some i) is e =
     index_of_only (layout_of w) shard local i ((entry_from_index w shard local i e).1) (λ j h. let there : Some i ≡ Some j = sym e ∙ index_from_entry w j (record { shard = shard; local = local }) is h in cc)
 
 -- the index of a local in the layout is the one of the rule
-pub index_of-layout_of : (w : Window) (shard local : ℕ) → IsWindow w → index_of (layout_of w) shard local ≡ index_among w.rounds (width_of w) 0 w.spots shard local
+pub index_of-layout_of : (w : Window) (shard local : ℕ) → IsWindow w
+    → index_of (layout_of w) shard local ≡ index_among w.rounds (width_of w) 0 w.spots shard local
 index_of-layout_of w shard local is = index_of_from w shard local _ is refl
 
 -- the place of a local in the layout is its position by the rule
@@ -177,14 +189,16 @@ owner_of_at w i =
     cond-false _ _ _ (le-ltb (w.base + i) w.base (omega arith)) ∙ ap (slice_get (layout_of w)) index
 
 -- who has the position of a local is the local's owner, and the position is in the window
-pub owner_of-place : (w : Window) (shard local p : ℕ) → IsWindow w → place_of w shard local ≡ Some p → (w.base ≤ p) × (p < end_of w) × (owner_of w p ≡ Some (record { shard = shard; local = local }))
+pub owner_of-place : (w : Window) (shard local p : ℕ) → IsWindow w → place_of w shard local ≡ Some p
+    → (w.base ≤ p) × (p < end_of w) × (owner_of w p ≡ Some (record { shard = shard; local = local }))
 owner_of-place w shard local p is e =
     let index = moved_some w.base p _ e in
     let entry = entry_from_index w shard local index.0 (sym (index_of-layout_of w shard local is) ∙ index.1) in
     (omega (arith, index.2), omega (arith, index.2, entry.0), ap (owner_of w) index.2 ∙ (owner_of_at w index.0 ∙ entry.1))
 
 -- a position that has an owner is in the window, and is the place of that owner
-pub place_of-owner : (w : Window) (p : ℕ) (o : Owner) → IsWindow w → owner_of w p ≡ Some o → (w.base ≤ p) × (p < end_of w) × (place_of w o.shard o.local ≡ Some p)
+pub place_of-owner : (w : Window) (p : ℕ) (o : Owner) → IsWindow w → owner_of w p ≡ Some o
+    → (w.base ≤ p) × (p < end_of w) × (place_of w o.shard o.local ≡ Some p)
 place_of-owner w p o is e =
     elim (cases_lt p w.base) [
       | inl before ↦ let none : None ≡ Some o = sym (cond-true _ _ _ (lt-ltb p w.base before)) ∙ e in absurd (cc)
@@ -203,7 +217,8 @@ owner_of_outside w p (inr past) =
     cond-false _ _ _ (le-ltb p w.base (omega arith)) ∙ slice_get_past (layout_of w) (p - w.base) (omega (arith, length-layout_of w))
 
 -- who has a position of the window
-pub owner_of_within : (w : Window) (p : ℕ) → w.base ≤ p → p < end_of w → owner_of w p ≡ owner_among w.spots ((p - w.base) / width_of w) ((p - w.base) % width_of w)
+pub owner_of_within : (w : Window) (p : ℕ) → w.base ≤ p → p < end_of w
+    → owner_of w p ≡ owner_among w.spots ((p - w.base) / width_of w) ((p - w.base) % width_of w)
 owner_of_within w p from below = cond-false _ _ _ (le-ltb p w.base from) ∙ slice_get-layout_of w (p - w.base) (omega arith)
 
 -- each place of a round has an owner
@@ -252,7 +267,8 @@ pub place_of-owner_of : (w : Window) (p : ℕ) → IsWindow w → IfSome (owner_
 place_of-owner_of w p is = place_of_found w p _ is refl
 
 -- who has a place in a round of the window
-pub owner_of-round : (w : Window) (round at : ℕ) → round < w.rounds → at < width_of w → owner_of w (w.base + round * width_of w + at) ≡ owner_among w.spots round at
+pub owner_of-round : (w : Window) (round at : ℕ) → round < w.rounds → at < width_of w
+    → owner_of w (w.base + round * width_of w + at) ≡ owner_among w.spots round at
 owner_of-round w round at h k =
     let index : w.base + round * width_of w + at ≡ w.base + (round * width_of w + at) = omega arith in
     let from : 0 + round ≡ round = omega arith in

@@ -9,7 +9,7 @@ use Rattle.quota_table.specs.declared.rows.Row.{Row}
 use Rattle.quota_table.specs.Rows.{IsTable, is_row, is_distinct, has_shard}
 use Rattle.quota_table.specs.Tables.{quotas_of}
 use Rattle.fix_ante.specs.declared.spots.Spot.{Spot}
-use Rattle.fix_ante.specs.Windows.{Window, IsWindow, row_of, rows_of, has_row, width_of, end_of, start_after, next_of, spots_without, without_of}
+use Rattle.fix_ante.specs.Windows.{Window, IsWindow, row_of, rows_of, has_row, width_of, end_of, start_after, window_after, spots_without, without_of}
 use Rattle.fix_ante.proofs.WindowLemmas.{rows_of-spots_from, starts-spots_from}
 use Rattle.fix_ante.proofs.PositionLemmas.{other_shard}
 
@@ -20,14 +20,17 @@ has_row-rows_of shard (s ∷ ss) = ap (λ t. (s.shard == shard) || t) (has_row-r
 
 -- ---- where shards go on
 
-pub start_after_here : (s : Spot) (ss : List Spot) (rounds shard : ℕ) → (s.shard == shard) ≡ true → start_after (s ∷ ss) rounds shard ≡ s.start + rounds * s.quota
+pub start_after_here : (s : Spot) (ss : List Spot) (rounds shard : ℕ) → (s.shard == shard) ≡ true
+    → start_after (s ∷ ss) rounds shard ≡ s.start + rounds * s.quota
 start_after_here s ss rounds shard same = cond-true _ _ _ same
 
-pub start_after_later : (s : Spot) (ss : List Spot) (rounds shard : ℕ) → (s.shard == shard) ≡ false → start_after (s ∷ ss) rounds shard ≡ start_after ss rounds shard
+pub start_after_later : (s : Spot) (ss : List Spot) (rounds shard : ℕ) → (s.shard == shard) ≡ false
+    → start_after (s ∷ ss) rounds shard ≡ start_after ss rounds shard
 start_after_later s ss rounds shard other = cond-false _ _ _ other
 
 -- no start after some rounds is past the position after them
-pub start_after-le : (base width rounds shard : ℕ) (spots : List Spot) → quotas_of (rows_of spots) ≤ width → list_all (λ (s : Spot). nat_le s.start base) spots ≡ true → start_after spots rounds shard ≤ base + rounds * width
+pub start_after-le : (base width rounds shard : ℕ) (spots : List Spot) → quotas_of (rows_of spots) ≤ width
+    → list_all (λ (s : Spot). nat_le s.start base) spots ≡ true → start_after spots rounds shard ≤ base + rounds * width
 start_after-le base width rounds shard [] h starts = omega arith
 start_after-le base width rounds shard (s ∷ ss) h starts =
     let parts = and_parts (nat_le s.start base) (list_all (λ (s : Spot). nat_le s.start base) ss) starts in
@@ -43,14 +46,16 @@ start_after-le base width rounds shard (s ∷ ss) h starts =
     ]
 
 -- one row more, of a shard that no earlier row has
-pub start_after-push_own : (spots : List Spot) (s : Spot) (rounds : ℕ) → has_row s.shard spots ≡ false → start_after (spots ++ s ∷ []) rounds s.shard ≡ s.start + rounds * s.quota
+pub start_after-push_own : (spots : List Spot) (s : Spot) (rounds : ℕ) → has_row s.shard spots ≡ false
+    → start_after (spots ++ s ∷ []) rounds s.shard ≡ s.start + rounds * s.quota
 start_after-push_own [] s rounds absent = start_after_here s [] rounds s.shard (eq-eqb s.shard s.shard refl)
 start_after-push_own (t ∷ ts) s rounds absent =
     let parts = or_parts _ _ absent in
     start_after_later t (ts ++ s ∷ []) rounds s.shard parts.0 ∙ start_after-push_own ts s rounds parts.1
 
 -- and seen from another shard
-pub start_after-push_other : (spots : List Spot) (s : Spot) (rounds shard : ℕ) → (s.shard == shard) ≡ false → start_after (spots ++ s ∷ []) rounds shard ≡ start_after spots rounds shard
+pub start_after-push_other : (spots : List Spot) (s : Spot) (rounds shard : ℕ) → (s.shard == shard) ≡ false
+    → start_after (spots ++ s ∷ []) rounds shard ≡ start_after spots rounds shard
 start_after-push_other [] s rounds shard other = start_after_later s [] rounds shard other
 start_after-push_other (t ∷ ts) s rounds shard other =
     elim (cases_Bool (t.shard == shard)) [
@@ -64,14 +69,16 @@ has_shard_at (s ∷ ss) zero d h = or_left _ _ (eq-eqb s.shard s.shard refl)
 has_shard_at (s ∷ ss) (suc i) d h = or_right _ _ (has_shard_at ss i d (omega arith))
 
 -- no row before a row has its shard
-pub fresh_before : (spots : List Spot) (i : ℕ) (d : Spot) → is_distinct (rows_of spots) ≡ true → i < length spots → has_row (get_or spots i d).shard (take i spots) ≡ false
+pub fresh_before : (spots : List Spot) (i : ℕ) (d : Spot) → is_distinct (rows_of spots) ≡ true → i < length spots
+    → has_row (get_or spots i d).shard (take i spots) ≡ false
 fresh_before [] i d distinct h = absurd (omega arith)
 fresh_before (s ∷ ss) zero d distinct h = refl
 fresh_before (s ∷ ss) (suc i) d distinct h =
     or_from _ _ (other_shard s ss (get_or ss i d).shard distinct (has_shard_at ss i d (omega arith))) (fresh_before ss i d ((and_parts _ _ distinct).1) (omega arith))
 
 -- the window of a table that follows is valid
-pub IsWindow-next_of : (w : Window) (number rounds : ℕ) (rows : List Row) → IsWindow w → end_of w ≤ 2 ^ 48 → 1 ≤ rounds → rounds ≤ 1024 → IsTable rows → IsWindow (next_of w number rounds rows)
+pub IsWindow-next_of : (w : Window) (number rounds : ℕ) (rows : List Row) → IsWindow w → end_of w ≤ 2 ^ 48 → 1 ≤ rounds → rounds ≤ 1024 → IsTable rows
+    → IsWindow (window_after w number rounds rows)
 IsWindow-next_of w number rounds rows is end some most table = record {
   base = end;
   some = some;
@@ -85,14 +92,17 @@ IsWindow-next_of w number rounds rows is end some most table = record {
 moved_on : ℕ → Spot → Spot
 moved_on covered s = record { shard = s.shard; quota = s.quota; start = s.start + covered * s.quota }
 
-pub spots_without_here : (s : Spot) (ss : List Spot) (covered shard : ℕ) → (s.shard == shard) ≡ true → spots_without (s ∷ ss) covered shard ≡ spots_without ss covered shard
+pub spots_without_here : (s : Spot) (ss : List Spot) (covered shard : ℕ) → (s.shard == shard) ≡ true
+    → spots_without (s ∷ ss) covered shard ≡ spots_without ss covered shard
 spots_without_here s ss covered shard same = cond-true _ _ _ same
 
-pub spots_without_other : (s : Spot) (ss : List Spot) (covered shard : ℕ) → (s.shard == shard) ≡ false → spots_without (s ∷ ss) covered shard ≡ record { shard = s.shard; quota = s.quota; start = s.start + covered * s.quota } ∷ spots_without ss covered shard
+pub spots_without_other : (s : Spot) (ss : List Spot) (covered shard : ℕ) → (s.shard == shard) ≡ false
+    → spots_without (s ∷ ss) covered shard ≡ record { shard = s.shard; quota = s.quota; start = s.start + covered * s.quota } ∷ spots_without ss covered shard
 spots_without_other s ss covered shard other = cond-false _ _ _ other
 
 -- what holds of the rows holds of those that remain
-pub within-spots_without : (spots : List Spot) (covered shard : ℕ) → list_all is_row (rows_of spots) ≡ true → list_all is_row (rows_of (spots_without spots covered shard)) ≡ true
+pub within-spots_without : (spots : List Spot) (covered shard : ℕ) → list_all is_row (rows_of spots) ≡ true
+    → list_all is_row (rows_of (spots_without spots covered shard)) ≡ true
 within-spots_without [] covered shard h = refl
 within-spots_without (s ∷ ss) covered shard h =
     let parts = and_parts _ _ h in
@@ -102,7 +112,8 @@ within-spots_without (s ∷ ss) covered shard h =
       | inr other ↦ rw (spots_without_other s ss covered shard other) (and_from _ _ parts.0 rest)
     ]
 
-pub absent-spots_without : (spots : List Spot) (covered shard other : ℕ) → has_shard other (rows_of spots) ≡ false → has_shard other (rows_of (spots_without spots covered shard)) ≡ false
+pub absent-spots_without : (spots : List Spot) (covered shard other : ℕ) → has_shard other (rows_of spots) ≡ false
+    → has_shard other (rows_of (spots_without spots covered shard)) ≡ false
 absent-spots_without [] covered shard x h = refl
 absent-spots_without (s ∷ ss) covered shard x h =
     let parts = or_parts _ _ h in
@@ -112,7 +123,8 @@ absent-spots_without (s ∷ ss) covered shard x h =
       | inr other ↦ rw (spots_without_other s ss covered shard other) (or_from _ _ parts.0 rest)
     ]
 
-pub distinct-spots_without : (spots : List Spot) (covered shard : ℕ) → is_distinct (rows_of spots) ≡ true → is_distinct (rows_of (spots_without spots covered shard)) ≡ true
+pub distinct-spots_without : (spots : List Spot) (covered shard : ℕ) → is_distinct (rows_of spots) ≡ true
+    → is_distinct (rows_of (spots_without spots covered shard)) ≡ true
 distinct-spots_without [] covered shard h = refl
 distinct-spots_without (s ∷ ss) covered shard h =
     let parts = and_parts _ _ h in
@@ -133,13 +145,15 @@ left-spots_without (s ∷ ss) covered shard =
     ]
 
 -- no rows leave where no row is the shard's, and one row at most where rows are distinct
-length-spots_without_absent : (spots : List Spot) (covered shard : ℕ) → has_shard shard (rows_of spots) ≡ false → length (spots_without spots covered shard) ≡ length spots
+length-spots_without_absent : (spots : List Spot) (covered shard : ℕ) → has_shard shard (rows_of spots) ≡ false
+    → length (spots_without spots covered shard) ≡ length spots
 length-spots_without_absent [] covered shard h = refl
 length-spots_without_absent (s ∷ ss) covered shard h =
     let parts = or_parts _ _ h in
     rw (spots_without_other s ss covered shard parts.0) (ap suc (length-spots_without_absent ss covered shard parts.1))
 
-pub length-spots_without : (spots : List Spot) (covered shard : ℕ) → is_distinct (rows_of spots) ≡ true → (length (spots_without spots covered shard) ≤ length spots) × (length spots ≤ length (spots_without spots covered shard) + 1)
+pub length-spots_without : (spots : List Spot) (covered shard : ℕ) → is_distinct (rows_of spots) ≡ true
+    → (length (spots_without spots covered shard) ≤ length spots) × (length spots ≤ length (spots_without spots covered shard) + 1)
 length-spots_without [] covered shard h = (omega arith, omega arith)
 length-spots_without (s ∷ ss) covered shard h =
     let parts = and_parts _ _ h in
@@ -152,7 +166,9 @@ length-spots_without (s ∷ ss) covered shard h =
       | inr other ↦ rw (spots_without_other s ss covered shard other) (omega arith, omega arith)
     ]
 
-pub starts-spots_without : (base width covered shard : ℕ) (spots : List Spot) → quotas_of (rows_of spots) ≤ width → list_all (λ (s : Spot). nat_le s.start base) spots ≡ true → list_all (λ (s : Spot). nat_le s.start (base + covered * width)) (spots_without spots covered shard) ≡ true
+pub starts-spots_without : (base width covered shard : ℕ) (spots : List Spot) → quotas_of (rows_of spots) ≤ width
+    → list_all (λ (s : Spot). nat_le s.start base) spots ≡ true
+    → list_all (λ (s : Spot). nat_le s.start (base + covered * width)) (spots_without spots covered shard) ≡ true
 starts-spots_without base width covered shard [] h starts = refl
 starts-spots_without base width covered shard (s ∷ ss) h starts =
     let parts = and_parts (nat_le s.start base) (list_all (λ (s : Spot). nat_le s.start base) ss) starts in
@@ -165,7 +181,8 @@ starts-spots_without base width covered shard (s ∷ ss) h starts =
     ]
 
 -- the window that a removal leaves is valid, where another row remains
-pub IsWindow-without_of : (w : Window) (number covered shard : ℕ) → IsWindow w → end_of w ≤ 2 ^ 48 → 2 ≤ length w.spots → covered < w.rounds → IsWindow (without_of w number covered shard)
+pub IsWindow-without_of : (w : Window) (number covered shard : ℕ) → IsWindow w → end_of w ≤ 2 ^ 48 → 2 ≤ length w.spots → covered < w.rounds
+    → IsWindow (without_of w number covered shard)
 IsWindow-without_of w number covered shard is end another below =
     let sizes = length-spots_without w.spots covered shard is.table.distinct in
     let before = length-map w.spots row_of in
@@ -184,7 +201,9 @@ IsWindow-without_of w number covered shard is end another below =
     }
 
 -- a table of starts by shard, with one row more written into it
-pub starts_more : (spots : List Spot) (starts : List ℕ) (i rounds : ℕ) (d : Spot) → is_distinct (rows_of spots) ≡ true → i < length spots → length starts ≡ 6 → (get_or spots i d).shard < 6 → ((shard : ℕ) → shard < 6 → get_or starts shard 0 ≡ start_after (take i spots) rounds shard) → (shard : ℕ) → shard < 6 → get_or (set starts (get_or spots i d).shard ((get_or spots i d).start + rounds * (get_or spots i d).quota)) shard 0 ≡ start_after (take (i + 1) spots) rounds shard
+pub starts_more : (spots : List Spot) (starts : List ℕ) (i rounds : ℕ) (d : Spot) → is_distinct (rows_of spots) ≡ true → i < length spots → length starts ≡ 6
+    → (get_or spots i d).shard < 6 → ((shard : ℕ) → shard < 6 → get_or starts shard 0 ≡ start_after (take i spots) rounds shard) → (shard : ℕ) → shard < 6
+    → get_or (set starts (get_or spots i d).shard ((get_or spots i d).start + rounds * (get_or spots i d).quota)) shard 0 ≡ start_after (take (i + 1) spots) rounds shard
 starts_more spots starts i rounds d distinct h len within before shard below =
     let s = get_or spots i d in
     let value = s.start + rounds * s.quota in

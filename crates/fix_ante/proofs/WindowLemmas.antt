@@ -15,7 +15,8 @@ rows_of-spots_from start [] = refl
 rows_of-spots_from start (r ∷ rs) = ap (λ t. r ∷ t) (rows_of-spots_from start rs)
 
 -- starts that are all within a bound are so in the rows
-pub starts-spots_from : (start : ℕ → ℕ) (bound : ℕ) (rows : List Row) → ((shard : ℕ) → start shard ≤ bound) → list_all (λ (s : Spot). nat_le s.start bound) (spots_from start rows) ≡ true
+pub starts-spots_from : (start : ℕ → ℕ) (bound : ℕ) (rows : List Row) → ((shard : ℕ) → start shard ≤ bound)
+    → list_all (λ (s : Spot). nat_le s.start bound) (spots_from start rows) ≡ true
 starts-spots_from start bound [] h = refl
 starts-spots_from start bound (r ∷ rs) h =
     let here = h r.shard in
@@ -31,11 +32,13 @@ IsWindow-first_of rounds rows some most table = record {
   starts = starts-spots_from (λ _. 0) 0 rows (λ _. omega arith);
 }
 
-spot_within : (base : ℕ) (s : Spot) (ss : List Spot) → list_all is_row (rows_of (s ∷ ss)) ≡ true → list_all (λ (t : Spot). nat_le t.start base) (s ∷ ss) ≡ true → (s.shard < 6) × (1 ≤ s.quota) × (s.quota ≤ 64) × (s.start ≤ base) × (list_all is_row (rows_of ss) ≡ true) × (list_all (λ (t : Spot). nat_le t.start base) ss ≡ true)
+spot_within : (base : ℕ) (s : Spot) (ss : List Spot) → list_all is_row (rows_of (s ∷ ss)) ≡ true → list_all (λ (t : Spot). nat_le t.start base) (s ∷ ss) ≡ true
+    → (s.shard < 6) × (1 ≤ s.quota) × (s.quota ≤ 64) × (s.start ≤ base) × (list_all is_row (rows_of ss) ≡ true) × (list_all (λ (t : Spot). nat_le t.start base) ss ≡ true)
 spot_within base s ss within starts = grind (arith, nat_tests)
 
 -- each row of a list within the limits is within them
-pub IsSpot-each : (base : ℕ) (spots : List Spot) → list_all is_row (rows_of spots) ≡ true → list_all (λ (t : Spot). nat_le t.start base) spots ≡ true → All (IsSpot base) spots
+pub IsSpot-each : (base : ℕ) (spots : List Spot) → list_all is_row (rows_of spots) ≡ true → list_all (λ (t : Spot). nat_le t.start base) spots ≡ true
+    → All (IsSpot base) spots
 IsSpot-each base [] within starts = All-nil (IsSpot base)
 IsSpot-each base (s ∷ ss) within starts =
     let here = spot_within base s ss within starts in

@@ -1,8 +1,8 @@
 -- The positions that a removal moves, and the least of them.
-use Rattle.std.specs.Prelude.{ℕ, ◌+◌, ◌*◌, ◌<◌, ◌≡◌, ◌≢◌, ◌==◌, nat_lt, if◌then◌else◌, List, [], ◌∷◌, Option}
-use Rattle.fix_ante.specs.declared.spots.Spot.{Spot}
+use Rattle.std.specs.Prelude.{ℕ, ◌+◌, ◌<◌, ◌≡◌, ◌≢◌, nat_lt, if◌then◌else◌, Option}
+use Rattle.quota_table.specs.Tables.{quotas_before}
 use Rattle.fix_ante.specs.declared.spots.Owner.{Owner}
-use Rattle.fix_ante.specs.Windows.{Window, width_of, without_of}
+use Rattle.fix_ante.specs.Windows.{Window, rows_of, end_after, without_of}
 use Rattle.fix_ante.specs.Layout.{owner_of}
 
 -- who has a position once a window is followed by another: below the other's base the owners stay
@@ -18,11 +18,6 @@ pub record IsFirstMoved (before after : ℕ → Option Owner) (position : ℕ) :
 abbrev pub IsFirstFailed : Window → ℕ → ℕ → ℕ → Type 0
 IsFirstFailed w covered shard = IsFirstMoved (owner_of w) (owner_after w (without_of w 0 covered shard))
 
--- the sum of the quotas of the rows before the shard's
-abbrev pub quotas_before : List Spot → ℕ → ℕ
-quotas_before [] shard = 0
-quotas_before (s ∷ ss) shard = if s.shard == shard then 0 else s.quota + quotas_before ss shard
-
 -- where the shard's first local after the covered rounds stands
 abbrev pub first_failed_of : Window → ℕ → ℕ → ℕ
-first_failed_of w covered shard = w.base + covered * width_of w + quotas_before w.spots shard
+first_failed_of w covered shard = end_after w covered + quotas_before (rows_of w.spots) shard

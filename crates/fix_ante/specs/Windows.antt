@@ -30,9 +30,12 @@ has_row shard = list_any (λ (s : Spot). s.shard == shard)
 abbrev pub width_of : Window → ℕ
 width_of w = quotas_of (rows_of w.spots)
 
--- one past the last position
+-- one past the last position of the first rounds, and of all
+abbrev pub end_after : Window → ℕ → ℕ
+end_after w rounds = w.base + rounds * width_of w
+
 abbrev pub end_of : Window → ℕ
-end_of w = w.base + w.rounds * width_of w
+end_of w = end_after w w.rounds
 
 -- what every window keeps: a base of at most 2^48, 1 to 1,024 rounds, a valid table, and no start past the base
 pub record IsWindow (w : Window) : Type 0 where
@@ -62,14 +65,21 @@ first_of rounds rows = record {
   spots = spots_from (λ _. 0) rows;
 }
 
+-- a row's first local of a round, and one past its last
+abbrev pub round_begin : Spot → ℕ → ℕ
+round_begin s round = s.start + round * s.quota
+
+abbrev pub round_end : Spot → ℕ → ℕ
+round_end s round = round_begin s (round + 1)
+
 -- where a shard's locals go on after these rounds: a row's after its own, and from 0 where no row is the shard's
 abbrev pub start_after : List Spot → ℕ → ℕ → ℕ
 start_after [] rounds shard = 0
-start_after (s ∷ ss) rounds shard = if s.shard == shard then s.start + rounds * s.quota else start_after ss rounds shard
+start_after (s ∷ ss) rounds shard = if s.shard == shard then round_begin s rounds else start_after ss rounds shard
 
 -- the window of a table that follows all rounds of this one
-abbrev pub next_of : Window → ℕ → ℕ → List Row → Window
-next_of w number rounds rows = record {
+abbrev pub window_after : Window → ℕ → ℕ → List Row → Window
+window_after w number rounds rows = record {
   number = number;
   base = end_of w;
   rounds = rounds;
@@ -81,13 +91,13 @@ abbrev pub spots_without : List Spot → ℕ → ℕ → List Spot
 spots_without [] covered shard = []
 spots_without (s ∷ ss) covered shard =
     if s.shard == shard then spots_without ss covered shard
-    else record { shard = s.shard; quota = s.quota; start = s.start + covered * s.quota } ∷ spots_without ss covered shard
+    else record { shard = s.shard; quota = s.quota; start = round_begin s covered } ∷ spots_without ss covered shard
 
 -- the window that follows the first rounds of this one, without a shard
 abbrev pub without_of : Window → ℕ → ℕ → ℕ → Window
 without_of w number covered shard = record {
   number = number;
-  base = w.base + covered * width_of w;
+  base = end_after w covered;
   rounds = w.rounds;
   spots = spots_without w.spots covered shard;
 }

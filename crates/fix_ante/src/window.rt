@@ -1,6 +1,8 @@
 ghost use Rattle.std.specs.Prelude.{◌≡◌, ◌<◌, ◌≤◌, ◌^◌, ℕ, IsTrue, length, slice_index};
+ghost use Rattle.std.specs.Cmp.Rules.{comparing};
 ghost use Rattle.std.specs.List.{All};
-ghost use Rattle.fix_ante.specs.Windows.{IsWindow, IsSpot, rows_of, has_row, width_of, end_of, first_of, next_of, without_of, start_after};
+ghost use Rattle.quota_table.specs.Tables.{quotas_of};
+ghost use Rattle.fix_ante.specs.Windows.{IsWindow, IsSpot, rows_of, has_row, width_of, end_of, end_after, first_of, window_after, window_eq, without_of, start_after};
 
 use crate::spots::Spot;
 use arrayvec::ArrayVec;
@@ -21,17 +23,23 @@ pub struct Window {
     number: u32,
     base: u64,
     rounds: u16,
+    /// Positions in a round: the sum of the rows' quotas, 1 to 384.
+    width: u16,
     spots: ArrayVec<Spot, 6>,
 }
 
 impl Model for Window {
-    ghost use Rattle.fix_ante.specs.Windows.{Window, IsWindow};
+    ghost use Rattle.std.specs.Prelude.{◌≡◌};
+    ghost use Rattle.fix_ante.specs.Windows.{Window, IsWindow, width_of};
 
     ghost Value = { Window };
 
     ghost view = { λ w. record { number = w.number; base = w.base; rounds = w.rounds; spots = w.spots.items } };
 
-    ghost invariant = { λ w. IsWindow (record { number = w.number; base = w.base; rounds = w.rounds; spots = w.spots.items }) };
+    ghost invariant = { λ w. record {
+      valid : IsWindow (record { number = w.number; base = w.base; rounds = w.rounds; spots = w.spots.items });
+      width : w.width ≡ width_of (record { number = w.number; base = w.base; rounds = w.rounds; spots = w.spots.items });
+    } };
 }
 
 impl Clone for Window {
@@ -43,9 +51,6 @@ impl Clone for Window {
 }
 
 impl PartialEq for Window {
-    ghost use Rattle.fix_ante.specs.Windows.{window_eq};
-    ghost use Rattle.std.specs.Cmp.Rules.{comparing};
-
     ghost eq = { window_eq };
 
     ghost laws = { Prim.search comparing depth 12 };
@@ -119,18 +124,35 @@ impl Window {
         ensures some { 1 ≤ result }
         ensures most { result ≤ 384 }
     {
-        let mut total = 0;
-        for spot in self.spots() {
-            total += u32::from(spot.quota);
-        }
-        total
+        u32::from(self.width)
     }
 
     /// One past the window's last position.
     pub fn end(&self) -> u64
         ensures { result ≡ end_of self.now }
     {
-        self.base + u64::from(self.rounds) * u64::from(self.width())
+        self.end_after(self.rounds)
+    }
+
+    /// One past the last position of the first rounds.
+    pub fn end_after(&self, rounds: u16) -> u64
+        ensures end { result ≡ end_after self.now rounds }
+        ensures most { result ≤ 2 ^ 49 }
+        ensures valid { IsWindow self.now }
+    {
+        self.base + u64::from(rounds) * u64::from(self.width())
+    }
+
+    /// Where the shard's locals go on after the first rounds: 0 where it is no row.
+    pub fn start_after(&self, rounds: u16, shard: u8) -> u64
+        ensures { result ≡ start_after self.now.spots rounds shard }
+    {
+        for spot in self.spots() {
+            if spot.shard == shard {
+                return spot.begin(rounds);
+            }
+        }
+        0
     }
 
     /// A copy, which takes no memory.
@@ -144,9 +166,37 @@ impl Window {
             number: self.number,
             base: self.base,
             rounds: self.rounds,
+            width: self.width,
             spots,
         }
     }
+}
+
+/// The window of these parts, which are known to be one's. It takes no memory.
+fn laid_out(number: u32, base: u64, rounds: u16, spots: ArrayVec<Spot, 6>) -> Window
+    requires { IsWindow (record { number = number; base = base; rounds = rounds; spots = spots.items }) }
+    ensures window { result ≡ record { number = number; base = base; rounds = rounds; spots = spots.items } }
+    ensures valid { IsWindow result }
+{
+    Window {
+        number,
+        base,
+        rounds,
+        width: width_among(spots.as_slice()),
+        spots,
+    }
+}
+
+/// Positions in a round of these rows.
+fn width_among(spots: &[Spot]) -> u16
+    requires { length spots.now ≤ 6 }
+    ensures { result ≡ quotas_of (rows_of spots.now) }
+{
+    let mut total = 0;
+    for spot in spots {
+        total += u16::from(spot.quota);
+    }
+    total
 }
 
 /// The first window: number, base and starts are 0. It takes no memory.
@@ -164,12 +214,7 @@ pub fn first(rounds: u16, table: &Table) -> Window
             start: 0,
         });
     }
-    Window {
-        number: 0,
-        base: 0,
-        rounds,
-        spots,
-    }
+    laid_out(0, 0, rounds, spots)
 }
 
 /// The window of a table that follows all rounds of this one. A shard goes on with its next local; one that is new
@@ -178,36 +223,19 @@ pub fn next(window: &Window, number: u32, rounds: u16, table: &Table) -> Window
     requires some { 1 ≤ rounds }
     requires most { rounds ≤ 1024 }
     requires end { end_of window.now ≤ 2 ^ 48 }
-    ensures next { result ≡ next_of window.now number rounds table.now }
+    ensures next { result ≡ window_after window.now number rounds table.now }
     ensures valid { IsWindow result }
 {
-    let starts = starts_after(window, window.rounds());
+    let covered = window.rounds();
     let mut spots = ArrayVec::new();
     for row in table.rows() {
         spots.push(Spot {
             shard: row.shard,
             quota: row.quota,
-            start: starts[usize::from(row.shard)],
+            start: window.start_after(covered, row.shard),
         });
     }
-    Window {
-        number,
-        base: window.end(),
-        rounds,
-        spots,
-    }
-}
-
-/// Where each shard's locals go on after the first rounds of the window.
-fn starts_after(window: &Window, rounds: u16) -> [u64; 6]
-    requires { rounds ≤ 1024 }
-    ensures { (shard : ℕ) → shard < 6 → slice_index result shard ≡ start_after window.now.spots rounds shard }
-{
-    let mut starts = [0; 6];
-    for spot in window.spots() {
-        starts[usize::from(spot.shard)] = spot.start + u64::from(rounds) * u64::from(spot.quota);
-    }
-    starts
+    laid_out(number, window.end(), rounds, spots)
 }
 
 /// The window that a removal leaves: after the covered rounds of this one the other rows go on, for as many rounds.
@@ -224,15 +252,10 @@ pub fn without(window: &Window, number: u32, covered: u16, shard: u8) -> Window
     for spot in window.spots() {
         if spot.shard != shard {
             spots.push(Spot {
-                start: spot.start + u64::from(covered) * u64::from(spot.quota),
+                start: spot.begin(covered),
                 ..*spot
             });
         }
     }
-    Window {
-        number,
-        base: window.base() + u64::from(covered) * u64::from(window.width()),
-        rounds: window.rounds(),
-        spots,
-    }
+    laid_out(number, window.end_after(covered), window.rounds(), spots)
 }

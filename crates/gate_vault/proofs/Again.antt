@@ -36,7 +36,8 @@ follows_then at n a b c first second f left =
     let before = first last.0 last.1 in
     (before.0, before.1, torn_then at n before.0 last.0 f before.2 last.2)
 
-pub elapses_then : (before mid now : ℕ) (past between since : ℕ → List ℕ → Type 0) (P Q R : List ℕ → Type 0) → Elapses before mid past between P → Elapses mid now between since Q
+pub elapses_then : (before mid now : ℕ) (past between since : ℕ → List ℕ → Type 0) (P Q R : List ℕ → Type 0) → Elapses before mid past between P
+    → Elapses mid now between since Q
     → ((c : List ℕ) → P c → R c) → ((c : List ℕ) → Q c → R c) → Elapses before now past since R
 elapses_then before mid now past between since P Q R first second from_first from_second = record {
   no_earlier = omega (arith, first.no_earlier, second.no_earlier);
@@ -48,11 +49,13 @@ elapses_then before mid now past between since P Q R first second from_first fro
 }
 
 -- two calls over which nothing new is left
-pub quiet_then : (before mid now : ℕ) (past between since : ℕ → List ℕ → Type 0) (P Q : List ℕ → Type 0) → Elapses before mid past between P → NoneNew P Q → Elapses mid now between since Q → Elapses before now past since P
+pub quiet_then : (before mid now : ℕ) (past between since : ℕ → List ℕ → Type 0) (P Q : List ℕ → Type 0) → Elapses before mid past between P → NoneNew P Q
+    → Elapses mid now between since Q → Elapses before now past since P
 quiet_then before mid now past between since P Q first none_new second =
     elapses_then before mid now past between since P Q P first second (λ c left. left) none_new
 
-pub elapses_widened : (before now : ℕ) (past since : ℕ → List ℕ → Type 0) (P Q : List ℕ → Type 0) → Elapses before now past since P → ((c : List ℕ) → P c → Q c) → Elapses before now past since Q
+pub elapses_widened : (before now : ℕ) (past since : ℕ → List ℕ → Type 0) (P Q : List ℕ → Type 0) → Elapses before now past since P → ((c : List ℕ) → P c → Q c)
+    → Elapses before now past since Q
 elapses_widened before now past since P Q time wider = record {
   no_earlier = time.no_earlier;
   nothing_else = λ t c le left. elim (time.nothing_else t c le left) [ inl was ↦ inl was | inr p ↦ inr (wider c p) ];

@@ -32,14 +32,16 @@ too_long_at bytes start len is has long =
     (has.high ∷ has.low ∷ drop 3 bytes, length_at bytes start len is has, inl (omega (arith, has.value)))
 
 -- fewer bytes than the length
-pub too_few_at : (at : ℕ) (file start entry : List ℕ) (len : ℕ) → start ≡ take 3 (drop at file) → HasLength start len → entry ≡ take len (drop (at + 3) file) → length entry < len → IsBadFrame (drop at file)
+pub too_few_at : (at : ℕ) (file start entry : List ℕ) (len : ℕ) → start ≡ take 3 (drop at file) → HasLength start len → entry ≡ take len (drop (at + 3) file)
+    → length entry < len → IsBadFrame (drop at file)
 too_few_at at file start entry len is has read few =
     let behind : drop 3 (drop at file) ≡ drop (at + 3) file = drop-drop 3 at file in
     let short : length (drop 3 (drop at file)) < len = omega (arith, ap length behind, ap length read, length-take len (drop (at + 3) file)) in
     (has.high ∷ has.low ∷ drop 3 (drop at file), length_at (drop at file) start len is has, inr (omega (arith, has.value)))
 
 -- a whole frame
-pub whole_at : (at : ℕ) (file start entry : List ℕ) (len : ℕ) → start ≡ take 3 (drop at file) → HasLength start len → entry ≡ take len (drop (at + 3) file) → len ≤ length entry
+pub whole_at : (at : ℕ) (file start entry : List ℕ) (len : ℕ) → start ≡ take 3 (drop at file) → HasLength start len → entry ≡ take len (drop (at + 3) file)
+    → len ≤ length entry
     → drop at file ≡ 1 ∷ payload entry ++ drop (at + 3 + length entry) file
 whole_at at file start entry len is has read whole =
     let behind : drop 3 (drop at file) ≡ drop (at + 3) file = drop-drop 3 at file in
@@ -55,7 +57,8 @@ whole_at at file start entry len is has read whole =
     ∙ ap (λ (n : ℕ). 1 ∷ (length entry / 256) ∷ n ∷ (entry ++ drop (at + 3 + length entry) file)) low
 
 -- one frame more was read
-pub next_read : (entries : List (List ℕ)) (entry file : List ℕ) (gate next : ℕ) → file ≡ body entries ++ drop gate file → drop gate file ≡ 1 ∷ payload entry ++ drop (gate + 3 + length entry) file
+pub next_read : (entries : List (List ℕ)) (entry file : List ℕ) (gate next : ℕ) → file ≡ body entries ++ drop gate file
+    → drop gate file ≡ 1 ∷ payload entry ++ drop (gate + 3 + length entry) file
     → next ≡ gate + 3 + length entry → (all : List (List ℕ)) → all ≡ entries ++ entry ∷ [] → file ≡ body all ++ drop next file
 next_read entries entry file gate next read frame is all grown =
     read ∙ ap (λ (l : List ℕ). body entries ++ l) frame

@@ -7,7 +7,8 @@ use Rattle.gate_vault.specs.Put.{WrittenOver, IsPut, IsTornPut}
 use Rattle.gate_vault.proofs.Again.{torn_then, torn_written, elapses_then, elapses_widened}
 
 -- a disk that tells its bytes before a call tells them after it
-pub told_some : (step : List ℕ → List ℕ → Type 0) (old new : Option (List ℕ)) (file : List ℕ) → Told step old new → old ≡ Some file → (after : List ℕ) × (new ≡ Some after) × step file after
+pub told_some : (step : List ℕ → List ℕ → Type 0) (old new : Option (List ℕ)) (file : List ℕ) → Told step old new → old ≡ Some file
+    → (after : List ℕ) × (new ≡ Some after) × step file after
 told_some step None new file told is = absurd (cc)
 told_some step (Some before) None file told is = absurd told
 told_some step (Some before) (Some after) file told is =
@@ -41,7 +42,8 @@ module _ {D : Type 0} (moment : D → ℕ) (left_since : D → ℕ → List ℕ 
   leaves_same a P here = record { no_earlier = omega arith; each = here; before = λ t f le left. inl left }
 
   -- calls over which time went on
-  pub leaves_from : (a b : D) (P : List ℕ → Type 0) → Elapses (moment a) (moment b) (left_since a) (left_since b) P → ((f : List ℕ) → left_since a (moment a) f → P f) → LeavesOnly moment left_since a b P
+  pub leaves_from : (a b : D) (P : List ℕ → Type 0) → Elapses (moment a) (moment b) (left_since a) (left_since b) P
+      → ((f : List ℕ) → left_since a (moment a) f → P f) → LeavesOnly moment left_since a b P
   leaves_from a b P time here = record {
     no_earlier = time.no_earlier;
     each = λ f left. elim (time.nothing_else (moment a) f (omega arith) left) [ inl was ↦ here f was | inr p ↦ p ];
@@ -69,7 +71,8 @@ module _ {D : Type 0} (moment : D → ℕ) (left_since : D → ℕ → List ℕ 
       (λ c left. subst (λ (d : List ℕ). Torn at n file d) (sym (only c (only_now old c left))) (torn_none at n file))
 
 -- the bytes of a disk after a write and a sync that both answered Ok
-pub put_done : (at : ℕ) (bytes file : List ℕ) (old mid new : Option (List ℕ)) (outcomes : List ℕ → Type 0) → old ≡ Some file → Told (WrittenOver at bytes) old mid → new ≡ mid
+pub put_done : (at : ℕ) (bytes file : List ℕ) (old mid new : Option (List ℕ)) (outcomes : List ℕ → Type 0) → old ≡ Some file
+    → Told (WrittenOver at bytes) old mid → new ≡ mid
     → IfSome mid (λ f. Only f outcomes) → IsPut at bytes file new outcomes
 put_done at bytes file old mid new outcomes is written same durable =
     let after = told_some (WrittenOver at bytes) old mid file written is in
@@ -85,7 +88,8 @@ pub put_failed : (at n : ℕ) (file : List ℕ) (old mid : Option (List ℕ)) �
 put_failed at n file old mid is torn = told_some (Torn at n) old mid file torn is
 
 -- the bytes of a disk after a write that answered Ok, whatever a sync behind it answers
-pub put_torn : (at : ℕ) (bytes file : List ℕ) (old mid new : Option (List ℕ)) → old ≡ Some file → Told (WrittenOver at bytes) old mid → new ≡ mid → IsTornPut at (length bytes) file new
+pub put_torn : (at : ℕ) (bytes file : List ℕ) (old mid new : Option (List ℕ)) → old ≡ Some file → Told (WrittenOver at bytes) old mid → new ≡ mid
+    → IsTornPut at (length bytes) file new
 put_torn at bytes file old mid new is written same =
     let after = told_some (WrittenOver at bytes) old mid file written is in
     (after.0, same ∙ after.1, torn_then at (length bytes) file after.2.0 after.0 after.2.1 (torn_written at bytes after.2.0 after.0 after.2.2))

@@ -18,7 +18,8 @@ read_more at len count file bytes piece so_far part =
     ∙ sym (take-add (length bytes) kept (drop at file))
 
 -- the file ended
-pub read_ended : (at len : ℕ) (file bytes : List ℕ) → bytes ≡ take (length bytes) (drop at file) → length bytes ≤ len → length file ≤ at + length bytes → bytes ≡ take len (drop at file)
+pub read_ended : (at len : ℕ) (file bytes : List ℕ) → bytes ≡ take (length bytes) (drop at file) → length bytes ≤ len → length file ≤ at + length bytes
+    → bytes ≡ take len (drop at file)
 read_ended at len file bytes so_far few end =
     let all : length (drop at file) ≤ length bytes = omega (arith, length-drop at file) in
     so_far ∙ take_all (length bytes) (drop at file) all ∙ sym (take_all len (drop at file) (omega arith))
@@ -27,7 +28,8 @@ pub seen_part : (seen was : Option (List ℕ)) (file : List ℕ) (P : List ℕ �
 seen_part seen was file P given same is = subst (λ (o : Option (List ℕ)). IfSome o P) (same ∙ is) given
 
 -- the bytes so far and one piece more are the front of what is to be read
-pub read_step : (at len count : ℕ) (file bytes piece next : List ℕ) → bytes ≡ take (length bytes) (drop at file) → GivesPart (at + length bytes) count piece file
+pub read_step : (at len count : ℕ) (file bytes piece next : List ℕ) → bytes ≡ take (length bytes) (drop at file)
+    → GivesPart (at + length bytes) count piece file
     → next ≡ bytes ++ take (min count (len - length bytes)) piece → next ≡ take (length next) (drop at file)
 read_step at len count file bytes piece next so_far part is =
     let more : next ≡ take (length bytes + min count (len - length bytes)) (drop at file) = is ∙ read_more at len count file bytes piece so_far part in

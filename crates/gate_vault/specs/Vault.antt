@@ -6,23 +6,21 @@ use Rattle.gate_vault.specs.declared.errors.VaultError.TheVariants.{Broken, TooL
 use Rattle.gate_vault.specs.declared.vault.Vault.{Vault}
 use Rattle.gate_vault.specs.File.{StandsFor, StandsWithGate, AreShort, gate_after}
 
--- the disk tells a file that stands for these entries, within the limit, and every crash leaves that file
-pub record Keeps {D : Type 0} (seen : D → Option (List ℕ)) (may_leave : D → List ℕ → Type 0) (vault : Vault D) (entries : List (List ℕ)) : Type 0 where
+-- the disk tells a file that stands for these entries in this way, within the limit, and every crash leaves that file
+pub record KeepsAs {D : Type 0} (Stands : List ℕ → List (List ℕ) → Type 0) (seen : D → Option (List ℕ)) (may_leave : D → List ℕ → Type 0) (vault : Vault D) (entries : List (List ℕ)) : Type 0 where
   pub file : List ℕ
   pub told : seen vault.disk ≡ Some file
-  pub stands : StandsFor file entries
+  pub stands : Stands file entries
   pub only : Only file (may_leave vault.disk)
   pub short : AreShort entries
   pub gate : vault.gate ≡ gate_after entries
 
--- it keeps them, and the byte of the last gate stands in the file
-pub record KeepsWithGate {D : Type 0} (seen : D → Option (List ℕ)) (may_leave : D → List ℕ → Type 0) (vault : Vault D) (entries : List (List ℕ)) : Type 0 where
-  pub file : List ℕ
-  pub told : seen vault.disk ≡ Some file
-  pub stands : StandsWithGate file entries
-  pub only : Only file (may_leave vault.disk)
-  pub short : AreShort entries
-  pub gate : vault.gate ≡ gate_after entries
+abbrev pub Keeps : {D : Type 0} → (D → Option (List ℕ)) → (D → List ℕ → Type 0) → Vault D → List (List ℕ) → Type 0
+Keeps = KeepsAs StandsFor
+
+-- and the byte of the last gate stands in the file
+abbrev pub KeepsWithGate : {D : Type 0} → (D → Option (List ℕ)) → (D → List ℕ → Type 0) → Vault D → List (List ℕ) → Type 0
+KeepsWithGate = KeepsAs StandsWithGate
 
 -- the vault's disk
 abbrev pub disk_of : {D : Type 0} → Vault D → D

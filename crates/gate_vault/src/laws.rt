@@ -12,5 +12,6 @@ pub fn stands_for_one()
 
 /// A file that stands for entries within the limit is refused by no load, but for a disk fault and want of memory.
 pub fn never_refused()
-    ensures { (file : List ℕ) (entries : List (List ℕ)) → StandsFor file entries → AreShort entries → (error : TheError) → RefusesFile file error → IsStop error }
+    ensures { (file : List ℕ) (entries : List (List ℕ)) → StandsFor file entries → AreShort entries → (error : TheError) → RefusesFile file error
+        → IsStop error }
 {}

@@ -35,15 +35,15 @@ pub fn read_bytes<D: Disk>(
     len: usize,
 ) -> Result<Bytes, VaultError>
     requires { at + len < 2 ^ 64 }
+    ensures fault { IsErrOf result DiskFault → FailedTwice (D.faults disk.old) (D.faults disk.new) (D.in_a_row disk.new) }
+    ensures no_fall { D.faults disk.old ≤ D.faults disk.new }
+    ensures sound { StaysSound (D.never_fails disk.old) (D.never_fails disk.new) (D.faults disk.old) (D.faults disk.new) }
     ensures bytes { (file : List ℕ) → D.seen disk.old ≡ Some file → IfOk result (λ bytes. bytes ≡ take len (drop at file)) }
     ensures few { IfOk result (λ bytes. length bytes ≤ len) }
     ensures stopped { IfErr result IsStop }
     ensures seen { D.seen disk.new ≡ D.seen disk.old }
     ensures none_new { NoneNew (D.may_leave disk.old) (D.may_leave disk.new) }
     ensures time { Elapses (D.moment disk.old) (D.moment disk.new) (D.left_since disk.old) (D.left_since disk.new) (D.may_leave disk.old) }
-    ensures fault { IsErrOf result DiskFault → FailedTwice (D.faults disk.old) (D.faults disk.new) (D.in_a_row disk.new) }
-    ensures no_fall { D.faults disk.old ≤ D.faults disk.new }
-    ensures sound { StaysSound (D.never_fails disk.old) (D.never_fails disk.new) (D.faults disk.old) (D.faults disk.new) }
 {
     let mut bytes = Bytes::new(alloc);
     let mut piece = [0; 256];
@@ -65,15 +65,15 @@ pub fn read_frame<D: Disk>(
     at: u64,
 ) -> Result<Option<Bytes>, VaultError>
     requires { at < 2 ^ 63 }
+    ensures fault { IsErrOf result DiskFault → FailedTwice (D.faults disk.old) (D.faults disk.new) (D.in_a_row disk.new) }
+    ensures no_fall { D.faults disk.old ≤ D.faults disk.new }
+    ensures sound { StaysSound (D.never_fails disk.old) (D.never_fails disk.new) (D.faults disk.old) (D.faults disk.new) }
     ensures frame { (file : List ℕ) → D.seen disk.old ≡ Some file → FrameRead at file result }
     ensures short { IfOk result (λ frame. IfSome frame (λ entry. length entry ≤ 4096)) }
     ensures named { IsStopOrDamaged result }
     ensures seen { D.seen disk.new ≡ D.seen disk.old }
     ensures none_new { NoneNew (D.may_leave disk.old) (D.may_leave disk.new) }
     ensures time { Elapses (D.moment disk.old) (D.moment disk.new) (D.left_since disk.old) (D.left_since disk.new) (D.may_leave disk.old) }
-    ensures fault { IsErrOf result DiskFault → FailedTwice (D.faults disk.old) (D.faults disk.new) (D.in_a_row disk.new) }
-    ensures no_fall { D.faults disk.old ≤ D.faults disk.new }
-    ensures sound { StaysSound (D.never_fails disk.old) (D.never_fails disk.new) (D.faults disk.old) (D.faults disk.new) }
 {
     let start = read_bytes(alloc, disk, at, 3)?;
     let len = match frame_start(start.as_slice()) {
@@ -96,14 +96,14 @@ pub fn read_frame<D: Disk>(
 /// was synced before, so what is read stands.
 pub fn read_entries<D: Disk>(alloc: Global, disk: &mut D) -> Result<(Entries, u64), VaultError>
     requires synced { (file : List ℕ) → D.seen disk.old ≡ Some file → Only file (D.may_leave disk.old) }
+    ensures fault { IsErrOf result DiskFault → FailedTwice (D.faults disk.old) (D.faults disk.new) (D.in_a_row disk.new) }
+    ensures no_fall { D.faults disk.old ≤ D.faults disk.new }
+    ensures sound { StaysSound (D.never_fails disk.old) (D.never_fails disk.new) (D.faults disk.old) (D.faults disk.new) }
     ensures entries { (file : List ℕ) → D.seen disk.old ≡ Some file → take 8 file ≡ head → FileRead file result }
     ensures named { IsStopOrDamaged result }
     ensures seen { D.seen disk.new ≡ D.seen disk.old }
     ensures none_new { NoneNew (D.may_leave disk.old) (D.may_leave disk.new) }
     ensures time { Elapses (D.moment disk.old) (D.moment disk.new) (D.left_since disk.old) (D.left_since disk.new) (D.may_leave disk.old) }
-    ensures fault { IsErrOf result DiskFault → FailedTwice (D.faults disk.old) (D.faults disk.new) (D.in_a_row disk.new) }
-    ensures no_fall { D.faults disk.old ≤ D.faults disk.new }
-    ensures sound { StaysSound (D.never_fails disk.old) (D.never_fails disk.new) (D.faults disk.old) (D.faults disk.new) }
 {
     let mut entries = Listed::new(alloc);
     let mut gate = 8;
@@ -134,14 +134,14 @@ fn head_fault(bytes: &[u8]) -> Option<usize>
 /// Reads the first bytes of a file, which are to be the head.
 fn check_head<D: Disk>(alloc: Global, disk: &mut D) -> Result<(), VaultError>
     requires synced { (file : List ℕ) → D.seen disk.old ≡ Some file → Only file (D.may_leave disk.old) }
+    ensures fault { IsErrOf result DiskFault → FailedTwice (D.faults disk.old) (D.faults disk.new) (D.in_a_row disk.new) }
+    ensures no_fall { D.faults disk.old ≤ D.faults disk.new }
+    ensures sound { StaysSound (D.never_fails disk.old) (D.never_fails disk.new) (D.faults disk.old) (D.faults disk.new) }
     ensures head { (file : List ℕ) → D.seen disk.old ≡ Some file → HeadRead file result }
     ensures named { IsStopOrNoVault result }
     ensures seen { D.seen disk.new ≡ D.seen disk.old }
     ensures none_new { NoneNew (D.may_leave disk.old) (D.may_leave disk.new) }
     ensures time { Elapses (D.moment disk.old) (D.moment disk.new) (D.left_since disk.old) (D.left_since disk.new) (D.may_leave disk.old) }
-    ensures fault { IsErrOf result DiskFault → FailedTwice (D.faults disk.old) (D.faults disk.new) (D.in_a_row disk.new) }
-    ensures no_fall { D.faults disk.old ≤ D.faults disk.new }
-    ensures sound { StaysSound (D.never_fails disk.old) (D.never_fails disk.new) (D.faults disk.old) (D.faults disk.new) }
 {
     let start = read_bytes(alloc, disk, 0, 8)?;
     match head_fault(start.as_slice()) {
@@ -156,15 +156,15 @@ fn check_head<D: Disk>(alloc: Global, disk: &mut D) -> Result<(), VaultError>
 #[tactic(auto, using(crate::proofs::Again::quiet_then))]
 /// Syncs, and reads the whole file.
 pub fn read_file<D: Disk>(alloc: Global, disk: &mut D) -> Result<(Entries, u64), VaultError>
+    ensures fault { IsErrOf result DiskFault → FailedTwice (D.faults disk.old) (D.faults disk.new) (D.in_a_row disk.new) }
+    ensures no_fall { D.faults disk.old ≤ D.faults disk.new }
+    ensures sound { StaysSound (D.never_fails disk.old) (D.never_fails disk.new) (D.faults disk.old) (D.faults disk.new) }
     ensures file { (file : List ℕ) → D.seen disk.old ≡ Some file → FileRead file result }
     ensures durable { (file : List ℕ) → D.seen disk.old ≡ Some file → WhereRead result (Only file (D.may_leave disk.new)) }
     ensures named { IfErr result IsLoadError }
     ensures seen { D.seen disk.new ≡ D.seen disk.old }
     ensures none_new { NoneNew (D.may_leave disk.old) (D.may_leave disk.new) }
     ensures time { Elapses (D.moment disk.old) (D.moment disk.new) (D.left_since disk.old) (D.left_since disk.new) (D.may_leave disk.old) }
-    ensures fault { IsErrOf result DiskFault → FailedTwice (D.faults disk.old) (D.faults disk.new) (D.in_a_row disk.new) }
-    ensures no_fall { D.faults disk.old ≤ D.faults disk.new }
-    ensures sound { StaysSound (D.never_fails disk.old) (D.never_fails disk.new) (D.faults disk.old) (D.faults disk.new) }
 {
     sync_twice(disk)?;
     check_head(alloc, disk)?;

@@ -10,15 +10,15 @@ use spec_base::{Disk, Stop};
 
 #[tactic(auto, using(crate::proofs::Again::failed_twice, spec_base::proofs::MemDiskLemmas::torn_none))]
 pub fn read_twice<D: Disk>(disk: &mut D, at: u64, into: &mut [u8]) -> Result<usize, Stop>
+    ensures fault { IsErrOf result Failed → FailedTwice (D.faults disk.old) (D.faults disk.new) (D.in_a_row disk.new) }
+    ensures tries { TriesEach 1 (D.faults disk.old) (D.faults disk.new) result }
+    ensures no_fall { D.faults disk.old ≤ D.faults disk.new }
+    ensures sound { StaysSound (D.never_fails disk.old) (D.never_fails disk.new) (D.faults disk.old) (D.faults disk.new) }
     ensures fits { IfOk result (λ n. n ≤ length into.new) }
     ensures given { IfOk result (λ n. IfSome (D.seen disk.old) (GivesPart at n into.new)) }
     ensures seen { D.seen disk.new ≡ D.seen disk.old }
     ensures none_new { NoneNew (D.may_leave disk.old) (D.may_leave disk.new) }
     ensures time { Elapses (D.moment disk.old) (D.moment disk.new) (D.left_since disk.old) (D.left_since disk.new) (D.may_leave disk.old) }
-    ensures fault { IsErrOf result Failed → FailedTwice (D.faults disk.old) (D.faults disk.new) (D.in_a_row disk.new) }
-    ensures tries { TriesEach 1 (D.faults disk.old) (D.faults disk.new) result }
-    ensures no_fall { D.faults disk.old ≤ D.faults disk.new }
-    ensures sound { StaysSound (D.never_fails disk.old) (D.never_fails disk.new) (D.faults disk.old) (D.faults disk.new) }
 {
     match disk.read(at, into) {
         Ok(count) => Ok(count),
@@ -29,15 +29,15 @@ pub fn read_twice<D: Disk>(disk: &mut D, at: u64, into: &mut [u8]) -> Result<usi
 
 #[tactic(auto, using(crate::proofs::Again::failed_twice, spec_base::proofs::MemDiskLemmas::torn_none))]
 pub fn write_twice<D: Disk>(disk: &mut D, at: u64, bytes: &[u8]) -> Result<(), Stop>
+    ensures fault { IsErrOf result Failed → FailedTwice (D.faults disk.old) (D.faults disk.new) (D.in_a_row disk.new) }
+    ensures tries { TriesEach 1 (D.faults disk.old) (D.faults disk.new) result }
+    ensures no_fall { D.faults disk.old ≤ D.faults disk.new }
+    ensures sound { StaysSound (D.never_fails disk.old) (D.never_fails disk.new) (D.faults disk.old) (D.faults disk.new) }
     ensures written { OnOk result (Told (WrittenOver at bytes.now) (D.seen disk.old) (D.seen disk.new)) }
     ensures torn { OnErr result (Told (Torn at (length bytes.now)) (D.seen disk.old) (D.seen disk.new)) }
     ensures crash { Follows (Torn at (length bytes.now)) (D.may_leave disk.old) (D.may_leave disk.new) }
     ensures time { Elapses (D.moment disk.old) (D.moment disk.new) (D.left_since disk.old) (D.left_since disk.new)
         (λ c. (d : List ℕ) × D.may_leave disk.old d × Torn at (length bytes.now) d c) }
-    ensures fault { IsErrOf result Failed → FailedTwice (D.faults disk.old) (D.faults disk.new) (D.in_a_row disk.new) }
-    ensures tries { TriesEach 1 (D.faults disk.old) (D.faults disk.new) result }
-    ensures no_fall { D.faults disk.old ≤ D.faults disk.new }
-    ensures sound { StaysSound (D.never_fails disk.old) (D.never_fails disk.new) (D.faults disk.old) (D.faults disk.new) }
 {
     match disk.write_at(at, bytes) {
         Ok(()) => Ok(()),
@@ -48,14 +48,14 @@ pub fn write_twice<D: Disk>(disk: &mut D, at: u64, bytes: &[u8]) -> Result<(), S
 
 #[tactic(auto, using(crate::proofs::Again::failed_twice, spec_base::proofs::MemDiskLemmas::torn_none))]
 pub fn sync_twice<D: Disk>(disk: &mut D) -> Result<(), Stop>
-    ensures durable { OnOk result (IfSome (D.seen disk.old) (λ file. Only file (D.may_leave disk.new))) }
-    ensures seen { D.seen disk.new ≡ D.seen disk.old }
-    ensures none_new { NoneNew (D.may_leave disk.old) (D.may_leave disk.new) }
-    ensures time { Elapses (D.moment disk.old) (D.moment disk.new) (D.left_since disk.old) (D.left_since disk.new) (D.may_leave disk.old) }
     ensures fault { IsErrOf result Failed → FailedTwice (D.faults disk.old) (D.faults disk.new) (D.in_a_row disk.new) }
     ensures tries { TriesEach 1 (D.faults disk.old) (D.faults disk.new) result }
     ensures no_fall { D.faults disk.old ≤ D.faults disk.new }
     ensures sound { StaysSound (D.never_fails disk.old) (D.never_fails disk.new) (D.faults disk.old) (D.faults disk.new) }
+    ensures durable { OnOk result (IfSome (D.seen disk.old) (λ file. Only file (D.may_leave disk.new))) }
+    ensures seen { D.seen disk.new ≡ D.seen disk.old }
+    ensures none_new { NoneNew (D.may_leave disk.old) (D.may_leave disk.new) }
+    ensures time { Elapses (D.moment disk.old) (D.moment disk.new) (D.left_since disk.old) (D.left_since disk.new) (D.may_leave disk.old) }
 {
     match disk.sync() {
         Ok(()) => Ok(()),

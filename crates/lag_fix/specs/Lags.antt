@@ -1,19 +1,16 @@
 -- Which rows are short of a round's end, and whether a row is past a round's begin.
-use Rattle.std.specs.Prelude.{ℕ, ◌+◌, ◌*◌, Bool, nat_lt, if◌then◌else◌, List, [], ◌∷◌, slice_index}
+use Rattle.std.specs.Prelude.{ℕ, Bool, nat_lt, if◌then◌else◌, List, [], ◌∷◌, slice_index}
 use Rattle.std.specs.List.{list_any}
 use Rattle.fix_ante.specs.declared.spots.Spot.{Spot}
+use Rattle.fix_ante.specs.Windows.{round_begin, round_end}
 use Rattle.lag_fix.specs.declared.wanted.Wanted.{Wanted}
-
--- a row's first local of a round; with the next round's it is one past the round's last
-abbrev pub round_begin : Spot → ℕ → ℕ
-round_begin s round = s.start + round * s.quota
 
 -- the rows whose shard's length is less than the round's end, in order, with the length that ends the round
 abbrev pub lagging_of : List Spot → ℕ → List ℕ → List Wanted
 lagging_of [] round lengths = []
 lagging_of (s ∷ ss) round lengths =
-    if nat_lt (slice_index lengths s.shard) (round_begin s (round + 1))
-    then record { shard = s.shard; len = round_begin s (round + 1) } ∷ lagging_of ss round lengths
+    if nat_lt (slice_index lengths s.shard) (round_end s round)
+    then record { shard = s.shard; len = round_end s round } ∷ lagging_of ss round lengths
     else lagging_of ss round lengths
 
 -- whether some row's length is more than the round's begin

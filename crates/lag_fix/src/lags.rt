@@ -2,7 +2,6 @@ ghost use Rattle.std.specs.Prelude.{◌≡◌, ◌<◌};
 ghost use Rattle.lag_fix.specs.Lags.{lagging_of, is_uncovered};
 
 use crate::wanted::{Lagging, Wanted};
-use arrayvec::ArrayVec;
 use fix_ante::Window;
 
 /// The rows whose length is less than the round's end, in the order of the window's rows, each with the length that
@@ -11,9 +10,9 @@ pub fn lagging(window: &Window, round: u16, lengths: &[u64; 6]) -> Lagging
     requires { round < window.now.rounds }
     ensures { result ≡ lagging_of window.now.spots round lengths.now }
 {
-    let mut rows = ArrayVec::new();
+    let mut rows = Lagging::new();
     for spot in window.spots() {
-        let len = spot.start + (u64::from(round) + 1) * u64::from(spot.quota);
+        let len = spot.begin(round + 1);
         if lengths[usize::from(spot.shard)] < len {
             rows.push(Wanted {
                 shard: spot.shard,
@@ -21,7 +20,7 @@ pub fn lagging(window: &Window, round: u16, lengths: &[u64; 6]) -> Lagging
             });
         }
     }
-    Lagging::from_rows(rows)
+    rows
 }
 
 /// Whether some row's length is more than the round's begin. `lengths` is as for [`lagging`].
@@ -30,8 +29,7 @@ pub fn uncovered(window: &Window, round: u16, lengths: &[u64; 6]) -> bool
     ensures { result ≡ is_uncovered window.now.spots round lengths.now }
 {
     for spot in window.spots() {
-        let begin = spot.start + u64::from(round) * u64::from(spot.quota);
-        if begin < lengths[usize::from(spot.shard)] {
+        if spot.begin(round) < lengths[usize::from(spot.shard)] {
             return true;
         }
     }

@@ -21,7 +21,7 @@ fn rows_short_of_a_round(rt: HostRuntime) {
     ] {
         let lengths = [zero, one, 0, 0, 0, 0];
         assert!(rt;
-            lagging(&window, 1, &lengths).rows() == wanted,
+            lagging(&window, 1, &lengths).as_slice() == wanted,
             "{zero} {one}"
         );
         assert!(rt;

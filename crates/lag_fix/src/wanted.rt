@@ -1,7 +1,4 @@
-ghost use Rattle.std.specs.Prelude.{◌≡◌};
-
-use arrayvec::ArrayVec;
-use std::marker::Model;
+use quota_table::Few;
 
 /// A row that is short, and how long its shard's log is to become.
 #[derive(Clone, Copy, Debug, Default, PartialEq, Eq)]
@@ -12,33 +9,5 @@ pub struct Wanted {
     pub len: u64,
 }
 
-/// The rows that are short, in the order of the window's rows. Contracts see it as that list.
-#[derive(Debug, Drop)]
-pub struct Lagging {
-    rows: ArrayVec<Wanted, 6>,
-}
-
-impl Model for Lagging {
-    ghost use Rattle.std.specs.Prelude.{List};
-    ghost use Rattle.lag_fix.specs.declared.wanted.Wanted.{Wanted};
-
-    ghost Value = { List Wanted };
-
-    ghost view = { λ l. l.rows.items };
-}
-
-impl Lagging {
-    /// The list of these rows.
-    pub(crate) fn from_rows(rows: ArrayVec<Wanted, 6>) -> Lagging
-        ensures { result ≡ rows.items }
-    {
-        Lagging { rows }
-    }
-
-    /// The rows, in order.
-    pub fn rows(&self) -> &[Wanted]
-        ensures { result.now ≡ self.now }
-    {
-        self.rows.as_slice()
-    }
-}
+/// The rows that are short, in the order of the window's rows.
+pub type Lagging = Few<Wanted, 6>;

@@ -41,7 +41,8 @@ known-consistent i is = IsConsistent-sound i.agreed is.sound is.ended
 -- ---- one entry more
 
 -- what is kept after it
-pub IsKnown-applied : (i j : Inside) (entry : Entry) → IsKnown i → i.agreed.slots < 1000000 → HasValidTable entry → j.first ≡ i.first → j.entries.items ≡ i.entries.items ++ entry ∷ [] → j.agreed ≡ applied i.agreed entry → IsKnown j
+pub IsKnown-applied : (i j : Inside) (entry : Entry) → IsKnown i → i.agreed.slots < 1000000 → HasValidTable entry → j.first ≡ i.first
+    → j.entries.items ≡ i.entries.items ++ entry ∷ [] → j.agreed ≡ applied i.agreed entry → IsKnown j
 IsKnown-applied i j entry is few valid first entries agreed =
     let slots : j.agreed.slots ≡ i.agreed.slots + 1 = ap (λ (a : Agreement). a.slots) agreed in
     record {
@@ -58,14 +59,16 @@ IsKnown-applied i j entry is few valid first entries agreed =
 
 -- ---- owners
 
-pub owner-current : (a : Agreement) (w : Window) (p : ℕ) (o : Owner) → IsSound a → located a p ≡ None → w ≡ a.current → owner_of w p ≡ Some o → mapped a p ≡ Some o
+pub owner-current : (a : Agreement) (w : Window) (p : ℕ) (o : Owner) → IsSound a → located a p ≡ None → w ≡ a.current → owner_of w p ≡ Some o
+    → mapped a p ≡ Some o
 owner-current a w p o is none current here =
     let later = option_or (owner_of a.current p) (owner_in_grant a.granted p) in
     mapped-parts a p is
     ∙ option_or-none (located a p) later none
     ∙ option_or-some (owner_of a.current p) (owner_in_grant a.granted p) o (ap (λ (v : Window). owner_of v p) (sym current) ∙ here)
 
-pub owner-granted : (a : Agreement) (w : Window) (g : Option Window) (p : ℕ) → IsSound a → located a p ≡ None → w ≡ a.current → owner_of w p ≡ None → a.granted ≡ g → mapped a p ≡ owner_in_grant g p
+pub owner-granted : (a : Agreement) (w : Window) (g : Option Window) (p : ℕ) → IsSound a → located a p ≡ None → w ≡ a.current → owner_of w p ≡ None
+    → a.granted ≡ g → mapped a p ≡ owner_in_grant g p
 owner-granted a w g p is none current not_here granted =
     let later = option_or (owner_of a.current p) (owner_in_grant a.granted p) in
     mapped-parts a p is

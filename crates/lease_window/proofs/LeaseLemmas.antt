@@ -24,7 +24,8 @@ lease number position = record { window = number; position = position }
 -- ---- a lease is looked up part by part
 
 -- a covered local's
-pub lease-covered : (a : Agreement) (shard local p number : ℕ) → IsSound a → IsNumbered a → placed a shard local ≡ Some p → slice_get a.numbers p ≡ Some number → lease_of a shard local ≡ Some (lease number p)
+pub lease-covered : (a : Agreement) (shard local p number : ℕ) → IsSound a → IsNumbered a → placed a shard local ≡ Some p → slice_get a.numbers p ≡ Some number
+    → lease_of a shard local ≡ Some (lease number p)
 lease-covered a shard local p number is all place at =
     let position : leased a shard local ≡ Some p = leased-parts a shard local is ∙ option_or-some (placed a shard local) (option_or (place_of a.current shard local) (place_in_grant a.granted shard local)) p place in
     let within = slice_get_within a.numbers p number at in
@@ -54,39 +55,47 @@ place_from : (covered : ℕ) (index : Option ℕ) (p : ℕ) → option_map (λ i
 place_from covered None p e = absurd (cc)
 place_from covered (Some i) p e = let at : covered + i ≡ p = cc in omega arith
 
-current-lease : (a : Agreement) (shard local p : ℕ) → IsSound a → IsNumbered a → count_of shard a.covered ≤ local → place_of a.current shard local ≡ Some p → numbered (numbers_of a) p ≡ Some (lease a.current.number p)
+current-lease : (a : Agreement) (shard local p : ℕ) → IsSound a → IsNumbered a → count_of shard a.covered ≤ local → place_of a.current shard local ≡ Some p
+    → numbered (numbers_of a) p ≡ Some (lease a.current.number p)
 current-lease a shard local p is all past place =
     let within = owner_of-place a.current shard local p is.window place in
     let from = place_from (length a.covered) (index_of (rest_of a) shard local) p (sym (place-rest a shard local is past) ∙ place) in
     ap (option_map (λ n. lease n p)) (numbers-current a p is all from within.1)
 
-granted-lease : (a : Agreement) (w : Window) (shard local : ℕ) (place : Option ℕ) → IsSound a → IsNumbered a → a.granted ≡ Some w → IsGrant a w → place_of w shard local ≡ place → option_and_then (numbered (numbers_of a)) place ≡ option_map (λ p. lease w.number p) place
+granted-lease : (a : Agreement) (w : Window) (shard local : ℕ) (place : Option ℕ) → IsSound a → IsNumbered a → a.granted ≡ Some w → IsGrant a w
+    → place_of w shard local ≡ place → option_and_then (numbered (numbers_of a)) place ≡ option_map (λ p. lease w.number p) place
 granted-lease a w shard local None is all granted grant place = refl
 granted-lease a w shard local (Some p) is all granted grant place =
     let within = owner_of-place w shard local p grant.window place in
     ap (option_map (λ n. lease n p)) (numbers-granted a w p is all granted grant (omega (arith, grant.base, within.0)) within.1)
 
-in_grant : (a : Agreement) (g : Option Window) (shard local : ℕ) → IsSound a → IsNumbered a → a.granted ≡ g → MayBeGrant a g → option_and_then (numbered (numbers_of a)) (place_in_grant g shard local) ≡ option_and_then (λ (w : Window). lease_in w shard local) g
+in_grant : (a : Agreement) (g : Option Window) (shard local : ℕ) → IsSound a → IsNumbered a → a.granted ≡ g → MayBeGrant a g
+    → option_and_then (numbered (numbers_of a)) (place_in_grant g shard local) ≡ option_and_then (λ (w : Window). lease_in w shard local) g
 in_grant a None shard local is all granted grant = refl
 in_grant a (Some w) shard local is all granted grant = granted-lease a w shard local (place_of w shard local) is all granted grant refl
 
-in_windows : (a : Agreement) (shard local : ℕ) (place : Option ℕ) → IsSound a → IsNumbered a → count_of shard a.covered ≤ local → place_of a.current shard local ≡ place → option_and_then (numbered (numbers_of a)) (option_or place (place_in_grant a.granted shard local)) ≡ option_or (option_map (λ p. lease a.current.number p) place) (option_and_then (λ (w : Window). lease_in w shard local) a.granted)
+in_windows : (a : Agreement) (shard local : ℕ) (place : Option ℕ) → IsSound a → IsNumbered a → count_of shard a.covered ≤ local
+    → place_of a.current shard local ≡ place
+    → option_and_then (numbered (numbers_of a)) (option_or place (place_in_grant a.granted shard local)) ≡ option_or (option_map (λ p. lease a.current.number p) place) (option_and_then (λ (w : Window). lease_in w shard local) a.granted)
 in_windows a shard local None is all past place = in_grant a a.granted shard local is all refl is.grant
 in_windows a shard local (Some p) is all past place = current-lease a shard local p is all past place
 
 -- another local's, in the current window and then in the granted one
-pub lease-uncovered : (a : Agreement) (shard local : ℕ) → IsSound a → IsNumbered a → placed a shard local ≡ None → lease_of a shard local ≡ option_or (lease_in a.current shard local) (option_and_then (λ (w : Window). lease_in w shard local) a.granted)
+pub lease-uncovered : (a : Agreement) (shard local : ℕ) → IsSound a → IsNumbered a → placed a shard local ≡ None
+    → lease_of a shard local ≡ option_or (lease_in a.current shard local) (option_and_then (λ (w : Window). lease_in w shard local) a.granted)
 lease-uncovered a shard local is all none =
     let later = option_or (place_of a.current shard local) (place_in_grant a.granted shard local) in
     ap (option_and_then (numbered (numbers_of a))) (leased-parts a shard local is ∙ option_or-none (placed a shard local) later none)
     ∙ in_windows a shard local (place_of a.current shard local) is all (not_covered a shard local is none) refl
 
-pub lease-current : (a : Agreement) (w : Window) (shard local : ℕ) (l : Lease) → IsSound a → IsNumbered a → placed a shard local ≡ None → w ≡ a.current → lease_in w shard local ≡ Some l → lease_of a shard local ≡ Some l
+pub lease-current : (a : Agreement) (w : Window) (shard local : ℕ) (l : Lease) → IsSound a → IsNumbered a → placed a shard local ≡ None → w ≡ a.current
+    → lease_in w shard local ≡ Some l → lease_of a shard local ≡ Some l
 lease-current a w shard local l is all none current here =
     lease-uncovered a shard local is all none
     ∙ option_or-some (lease_in a.current shard local) (option_and_then (λ (w : Window). lease_in w shard local) a.granted) l (ap (λ (v : Window). lease_in v shard local) (sym current) ∙ here)
 
-pub lease-granted : (a : Agreement) (w : Window) (g : Option Window) (shard local : ℕ) → IsSound a → IsNumbered a → placed a shard local ≡ None → w ≡ a.current → lease_in w shard local ≡ None → a.granted ≡ g → lease_of a shard local ≡ option_and_then (λ (w : Window). lease_in w shard local) g
+pub lease-granted : (a : Agreement) (w : Window) (g : Option Window) (shard local : ℕ) → IsSound a → IsNumbered a → placed a shard local ≡ None → w ≡ a.current
+    → lease_in w shard local ≡ None → a.granted ≡ g → lease_of a shard local ≡ option_and_then (λ (w : Window). lease_in w shard local) g
 lease-granted a w g shard local is all none current not_here granted =
     lease-uncovered a shard local is all none
     ∙ option_or-none (lease_in a.current shard local) (option_and_then (λ (w : Window). lease_in w shard local) a.granted) (ap (λ (v : Window). lease_in v shard local) (sym current) ∙ not_here)
@@ -98,14 +107,16 @@ from_number : (p : ℕ) (number : Option ℕ) (l : Lease) → option_map (λ n. 
 from_number p None l e = absurd (cc)
 from_number p (Some n) l e = let is : lease n p ≡ l = cc in (ap (λ (x : Lease). x.position) is, ap (λ (x : Lease). Some x.window) is)
 
-from_position : (numbers : List ℕ) (position : Option ℕ) (l : Lease) → option_and_then (numbered numbers) position ≡ Some l → (position ≡ Some l.position) × (slice_get numbers l.position ≡ Some l.window)
+from_position : (numbers : List ℕ) (position : Option ℕ) (l : Lease) → option_and_then (numbered numbers) position ≡ Some l
+    → (position ≡ Some l.position) × (slice_get numbers l.position ≡ Some l.window)
 from_position numbers None l e = absurd (cc)
 from_position numbers (Some p) l e =
     let is = from_number p (slice_get numbers p) l e in
     (ap (λ n. Some n) is.0, ap (slice_get numbers) (sym is.0) ∙ is.1)
 
 -- its position is the local's, and its number that of the position
-pub lease-is : (a : Agreement) (shard local : ℕ) (l : Lease) → lease_of a shard local ≡ Some l → (leased a shard local ≡ Some l.position) × (slice_get (numbers_of a) l.position ≡ Some l.window)
+pub lease-is : (a : Agreement) (shard local : ℕ) (l : Lease) → lease_of a shard local ≡ Some l
+    → (leased a shard local ≡ Some l.position) × (slice_get (numbers_of a) l.position ≡ Some l.window)
 lease-is a shard local l e = from_position (numbers_of a) (leased a shard local) l e
 
 -- what follows from each value that an option may have
@@ -116,7 +127,8 @@ each_some (Some x) P h = h x refl
 pub lease-window : (a : Agreement) (shard local : ℕ) → IfSome (lease_of a shard local) (λ l. slice_get (numbers_of a) l.position ≡ Some l.window)
 lease-window a shard local = each_some (lease_of a shard local) (λ l. slice_get (numbers_of a) l.position ≡ Some l.window) (λ l e. (lease-is a shard local l e).1)
 
-pub lease-owner : (a : Agreement) (shard local : ℕ) → IsConsistent a → IfSome (lease_of a shard local) (λ l. mapped a l.position ≡ Some (record { shard = shard; local = local }))
+pub lease-owner : (a : Agreement) (shard local : ℕ) → IsConsistent a
+    → IfSome (lease_of a shard local) (λ l. mapped a l.position ≡ Some (record { shard = shard; local = local }))
 lease-owner a shard local is =
     each_some (lease_of a shard local) (λ l. mapped a l.position ≡ Some (record { shard = shard; local = local })) (λ l e. (is.places shard local l.position).0 ((lease-is a shard local l e).0))
 
@@ -128,7 +140,8 @@ lease-limit a shard local is few =
     omega (arith, is.fits))
 
 -- a position of the map has a number
-positioned : (a : Agreement) (position : Option ℕ) → IsNumbered a → ((p : ℕ) → position ≡ Some p → p < length (map_of a)) → option_map (λ (l : Lease). l.position) (option_and_then (numbered (numbers_of a)) position) ≡ position
+positioned : (a : Agreement) (position : Option ℕ) → IsNumbered a → ((p : ℕ) → position ≡ Some p → p < length (map_of a))
+    → option_map (λ (l : Lease). l.position) (option_and_then (numbered (numbers_of a)) position) ≡ position
 positioned a None all within = refl
 positioned a (Some p) all within =
     elim ((slice_get_cases (numbers_of a) p).1) [
@@ -136,7 +149,8 @@ positioned a (Some p) all within =
       | inr past ↦ absurd (omega (arith, past.0, length-numbers_of a all, within p refl))
     ]
 
-pub lease-position : (a : Agreement) (shard local : ℕ) → IsConsistent a → IsNumbered a → option_map (λ (l : Lease). l.position) (lease_of a shard local) ≡ leased a shard local
+pub lease-position : (a : Agreement) (shard local : ℕ) → IsConsistent a → IsNumbered a
+    → option_map (λ (l : Lease). l.position) (lease_of a shard local) ≡ leased a shard local
 lease-position a shard local is all = positioned a (leased a shard local) all (λ p e. slice_get_within (map_of a) p _ ((is.places shard local p).0 e))
 
 same_some : (o : Option Lease) → is_some (option_map (λ (l : Lease). l.position) o) ≡ is_some o

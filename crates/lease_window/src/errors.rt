@@ -1,7 +1,3 @@
-ghost use Rattle.std.specs.Prelude.{◌≡◌};
-ghost use Rattle.lease_window.specs.declared.errors.LearnError.TheVariants.{OutOfMemory as NoRoom};
-
-use quota_table::OutOfMemory as NoMemory;
 use thiserror::Error;
 
 /// Why an entry was not learned.
@@ -22,12 +18,4 @@ pub enum LearnError {
     /// Memory was refused.
     #[error("out of memory")]
     OutOfMemory,
-}
-
-impl From<NoMemory> for LearnError {
-    ghost from_gives = { λ _ e. e ≡ NoRoom };
-
-    fn from(_: NoMemory) -> LearnError {
-        LearnError::OutOfMemory
-    }
 }

@@ -41,9 +41,9 @@ impl Model for Known {
 
     ghost Value = { KnownEntries };
 
-    ghost use Rattle.lease_window.specs.Insides.{known_of, IsKnown};
+    ghost use Rattle.lease_window.specs.Insides.{IsKnown};
 
-    ghost view = { known_of };
+    ghost view = { λ k. record { first = k.first; entries = k.entries.items } };
 
     ghost invariant = { IsKnown };
 }
@@ -82,7 +82,8 @@ impl Known {
         if slot < count {
             return Err(LearnError::Old { count });
         }
-        Ok(self.learn_next(slot, entry)?)
+        self.learn_next(slot, entry)
+            .map_err(|_| LearnError::OutOfMemory)
     }
 
     /// Learns the entry of the next slot. At an error all is as before.
@@ -140,6 +141,7 @@ impl Known {
     }
 
     /// Who has a position, a covered one or one of the current or the granted window. None exactly past these.
+    #[inline(always)]
     pub fn owner(&self, position: u64) -> Option<Owner>
         ensures owner { result ≡ mapped (agreed_of self.now) position }
         ensures within { IsSome result ↔ (position < length (map_of (agreed_of self.now))) }
@@ -179,6 +181,7 @@ fn lease_in(window: &Window, shard: u8, local: u64) -> Option<Lease>
 }
 
 /// Who has a position: among the covered ones, in the current window, or in the granted one.
+#[inline(always)]
 fn find_owner(agreed: &Agreed, position: u64) -> Option<Owner>
     ensures owner { result ≡ mapped agreed.now position }
     ensures limits { IfSome result (λ o. (o.shard < 6) × (o.local ≤ position)) }

@@ -62,8 +62,22 @@ fn is_leased(known: &Known, place: &Place) -> bool {
         && known.owner(position) == Some(Owner { shard, local })
 }
 
-fn are_leased(known: &Known, places: &[Place]) -> bool {
-    places.iter().all(|place| is_leased(known, place))
+/// A place as its shard, its local, its window and its position.
+fn read_place(text: &str) -> Option<Place> {
+    let (shard, rest) = text.split_once(' ')?;
+    let (local, rest) = rest.split_once(' ')?;
+    let (window, position) = rest.split_once(' ')?;
+    Some(Place(
+        shard.parse().ok()?,
+        local.parse().ok()?,
+        window.parse().ok()?,
+        position.parse().ok()?,
+    ))
+}
+
+/// Whether the locals of these places are leased so.
+fn are_leased(known: &Known, places: &str) -> bool {
+    places.split(", ").all(|text| read_place(text).is_some_and(|place| is_leased(known, &place)))
 }
 
 fn none_is_leased(known: &Known, locals: &[(u8, u64)]) -> bool {
@@ -73,14 +87,14 @@ fn none_is_leased(known: &Known, locals: &[(u8, u64)]) -> bool {
 }
 
 /// Two shards, and a table that turns them round.
-fn turned(rt: &impl Abort, alloc: Global) -> Result<Known, LearnError> {
+fn turned(rt: &impl Abort, alloc: Global) -> Result<Known, Fail> {
     let mut known = fresh(rt, alloc, &[asked(0, 2), asked(1, 3)])?;
     known.learn(0, &granting(rt, 0, &[asked(1, 1), asked(0, 1)]))?;
     Ok(known)
 }
 
 /// Three shards, of which a round is covered, and a table of the same.
-fn renewed(rt: &impl Abort, alloc: Global) -> Result<Known, LearnError> {
+fn renewed(rt: &impl Abort, alloc: Global) -> Result<Known, Fail> {
     let rows = [asked(0, 2), asked(1, 3), asked(2, 1)];
     let mut known = fresh(rt, alloc, &rows)?;
     known.learn(0, &cut(0, 0))?;
@@ -91,7 +105,7 @@ fn renewed(rt: &impl Abort, alloc: Global) -> Result<Known, LearnError> {
 #[test]
 fn a_lease_waits_for_the_table(rt: HostRuntime) -> Result<(), Fail> {
     let known = fresh(&rt, rt.alloc(), &[asked(0, 2), asked(1, 3)])?;
-    assert!(rt; are_leased(&known, &[Place(1, 4, 0, 8), Place(1, 11, 0, 19)]));
+    assert!(rt; are_leased(&known, "1 4 0 8, 1 11 0 19"));
     assert!(rt; none_is_leased(&known, &[(1, 12), (0, 8), (2, 0), (6, 0), (255, 0)]));
     assert_eq!(rt; known.owner(20), None);
     Ok(())
@@ -105,13 +119,7 @@ fn a_table_leases_its_window(rt: HostRuntime) -> Result<(), Fail> {
     assert!(rt;
         are_leased(
             &known,
-            &[
-                Place(1, 11, 0, 19),
-                Place(1, 12, 1, 20),
-                Place(0, 8, 1, 21),
-                Place(1, 15, 1, 26),
-                Place(0, 11, 1, 27),
-            ]
+            "1 11 0 19, 1 12 1 20, 0 8 1 21, 1 15 1 26, 0 11 1 27"
         )
     );
     assert!(rt; none_is_leased(&known, &[(1, 16), (0, 12)]));
@@ -157,14 +165,7 @@ fn a_grant_goes_with_a_removal(rt: HostRuntime) -> Result<(), Fail> {
     assert!(rt;
         are_leased(
             &known,
-            &[
-                Place(0, 1, 0, 1),
-                Place(1, 2, 0, 4),
-                Place(1, 3, 0, 8),
-                Place(0, 8, 2, 24),
-                Place(1, 12, 2, 26),
-                Place(2, 4, 2, 29),
-            ]
+            "0 1 0 1, 1 2 0 4, 1 3 0 8, 0 8 2 24, 1 12 2 26, 2 4 2 29"
         )
     );
     known.learn(
@@ -177,15 +178,7 @@ fn a_grant_goes_with_a_removal(rt: HostRuntime) -> Result<(), Fail> {
     assert!(rt;
         are_leased(
             &known,
-            &[
-                Place(0, 1, 0, 1),
-                Place(1, 2, 0, 4),
-                Place(0, 2, 3, 6),
-                Place(0, 3, 3, 7),
-                Place(2, 1, 3, 8),
-                Place(0, 8, 3, 15),
-                Place(2, 4, 3, 17),
-            ]
+            "0 1 0 1, 1 2 0 4, 0 2 3 6, 0 3 3 7, 2 1 3 8, 0 8 3 15, 2 4 3 17"
         )
     );
     assert!(rt; none_is_leased(&known, &[(1, 3), (0, 10), (2, 5)]));

@@ -76,7 +76,8 @@ module _ {V : Type 0} where
   -- vote and has promised a greater ballot
   abbrev pub IsSafeAt : ℕ → List (Vote V) → (ℕ → Option ℕ) → ℕ → V → Type 0
   IsSafeAt n votes bars ballot value =
-      (lower : ℕ) → lower < ballot → (quorum : List ℕ) × IsMajority n quorum × ((replica : ℕ) → Contains quorum replica → HasVote votes replica lower value ⊎ (HasNoVote votes replica lower × Reaches (bars replica) (suc lower)))
+      (lower : ℕ) → lower < ballot
+      → (quorum : List ℕ) × IsMajority n quorum × ((replica : ℕ) → Contains quorum replica → HasVote votes replica lower value ⊎ (HasNoVote votes replica lower × Reaches (bars replica) (suc lower)))
 
   -- each vote is safe
   abbrev pub SafeAtBallot : ℕ → List (Vote V) → (ℕ → Option ℕ) → Type 0
@@ -101,7 +102,8 @@ module _ {V : Type 0} where
 
   -- while nothing is being sent: who counts as having promised has promised, and the greatest report is kept
   pub record AttemptsHavePromises (sent : List (Message V)) (a : Attempt V) : Type 0 where
-    pub heard : (replica : ℕ) → Contains a.promises replica → (replica ≡ a.replica) ⊎ ((report : Option (ℕ × V)) × Contains sent (Promise replica a.ballot report) × Covers a.reported report)
+    pub heard : (replica : ℕ) → Contains a.promises replica
+        → (replica ≡ a.replica) ⊎ ((report : Option (ℕ × V)) × Contains sent (Promise replica a.ballot report) × Covers a.reported report)
     pub reported : WasReported sent a.ballot a.reported
 
   -- while a value is being sent: who counts as having accepted has voted it

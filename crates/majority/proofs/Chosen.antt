@@ -4,7 +4,7 @@ use Rattle.std.specs.List.{IsDistinct}
 use Rattle.std.proofs.lemmas.Bool.{cases_lt, cases_eq}
 use Rattle.std.proofs.lemmas.List.Elements.{All-contains}
 use Rattle.majority.specs.Ballots.{IsMajority}
-use Rattle.majority.specs.Votes.{Vote, HasVote, IsChosenAt, IsChosen}
+use Rattle.majority.specs.Votes.{Vote, HasVote, IsChosenAt, IsChosenByVotes}
 use Rattle.majority.proofs.Lists.{Contains-here}
 use Rattle.majority.proofs.Majorities.{MajoritiesMeet}
 use Rattle.majority.proofs.Agreement.{Reaches, HasNoVote, OneVotePerBallot, VotesHaveOwners, SafeAtBallot}
@@ -46,7 +46,7 @@ module _ {V : Type 0} where
   -- two chosen values are equal
   pub OneChosen : (n : ℕ) (votes : List (Vote V)) (bars : ℕ → Option ℕ) →
       OneVotePerBallot votes → VotesHaveOwners n votes → SafeAtBallot n votes bars →
-      (v w : V) → IsChosen n votes v → IsChosen n votes w → v ≡ w
+      (v w : V) → IsChosenByVotes n votes v → IsChosenByVotes n votes w → v ≡ w
   OneChosen n votes bars one owners safe v w p q =
       elim (cases_lt p.0 q.0) [
         | inl below ↦

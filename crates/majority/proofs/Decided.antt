@@ -7,7 +7,7 @@ use Rattle.std.proofs.lemmas.Bool.{cases_lt}
 use Rattle.majority.specs.Ballots.{IsMajority, is_majority, with_replica}
 use Rattle.majority.specs.Acceptors.{AcceptorState, accept_answer}
 use Rattle.majority.specs.Proposers.{Attempt, promise_answer, ballot_for, accepted_answer, accepted_answer_heard}
-use Rattle.majority.specs.Votes.{Vote, HasVote, IsChosenAt, IsChosen}
+use Rattle.majority.specs.Votes.{Vote, HasVote, IsChosenAt, IsChosenByVotes}
 use Rattle.majority.specs.declared.answers.AcceptedAnswer.{AcceptedAnswer}
 use Rattle.majority.specs.declared.answers.AcceptedAnswer.TheVariants as accepting
 use Rattle.majority.specs.declared.answers.AcceptAnswer.{AcceptAnswer}
@@ -22,7 +22,8 @@ use Rattle.majority.proofs.Members.{IsDistinct-with_replica, All-with_replica}
 use Rattle.majority.proofs.Promises.{most_from_test}
 
 -- the answer that a value is chosen comes where the test holds
-chosen_test : (test : Bool) (have : ℕ) → (let answer : AcceptedAnswer = if test then accepting.Chosen else accepting.Waiting have in answer) ≡ accepting.Chosen → test ≡ true
+chosen_test : (test : Bool) (have : ℕ) → (let answer : AcceptedAnswer = if test then accepting.Chosen else accepting.Waiting have in answer) ≡ accepting.Chosen
+    → test ≡ true
 chosen_test true have e = refl
 chosen_test false have e = absurd (cc)
 
@@ -63,7 +64,8 @@ module _ {V : Type 0} where
       of_attempt None = λ vote member. member
       of_attempt (Some a) = both (λ after. KeepsVotes slot.votes after.votes) (a.ballot == ballot) _ slot (λ vote member. member) (λ vote member. member)
 
-  kept_by_start : (i n b : ℕ) (wish : V) (slot : SlotState V) (test : Bool) → KeepsVotes slot.votes (if test then record { replica = i; ballot = b; value = wish } ∷ slot.votes else slot.votes)
+  kept_by_start : (i n b : ℕ) (wish : V) (slot : SlotState V) (test : Bool)
+      → KeepsVotes slot.votes (if test then record { replica = i; ballot = b; value = wish } ∷ slot.votes else slot.votes)
   kept_by_start i n b wish slot true vote member = Contains-later _ vote slot.votes member
   kept_by_start i n b wish slot false vote member = member
 
@@ -82,7 +84,8 @@ module _ {V : Type 0} where
   kept_by_run n (event ∷ events) slot vote member = kept_by_run n events (slot_after n event slot) vote (kept_by_event n event slot vote member)
 
   -- votes are kept as a schedule goes on
-  pub KeepsVotes-run : (n : ℕ) (early late : List (SlotEvent V)) (slot : SlotState V) → KeepsVotes (slot_run n early slot).votes (slot_run n (early ++ late) slot).votes
+  pub KeepsVotes-run : (n : ℕ) (early late : List (SlotEvent V)) (slot : SlotState V)
+      → KeepsVotes (slot_run n early slot).votes (slot_run n (early ++ late) slot).votes
   KeepsVotes-run n [] late slot = kept_by_run n late slot
   KeepsVotes-run n (event ∷ early) late slot = KeepsVotes-run n early late (slot_after n event slot)
 
@@ -91,7 +94,8 @@ module _ {V : Type 0} where
       (chosen.0, chosen.1, All-weaker (λ j. HasVote votes j b v) (λ j. HasVote votes' j b v) (λ j vote. kept _ vote) chosen.0 chosen.2)
 
   -- an attempt that counts a majority of acceptances has had its value chosen
-  pub IsChosen-counted : (n i : ℕ) (slot : SlotState V) (a : Attempt V) (v : V) → IsSound n slot → slot.attempts i ≡ Some a → a.sending ≡ Some v → n < 2 * length a.acceptances → IsChosenAt n slot.votes a.ballot v
+  pub IsChosen-counted : (n i : ℕ) (slot : SlotState V) (a : Attempt V) (v : V) → IsSound n slot → slot.attempts i ≡ Some a → a.sending ≡ Some v
+      → n < 2 * length a.acceptances → IsChosenAt n slot.votes a.ballot v
   IsChosen-counted n i slot a v sound stood sending most =
       let attempt : IsAttempt n slot.votes (bars_of slot.acceptors i) slot.sent i a = subst (λ t. IsAttemptIfAny n slot.votes (bars_of slot.acceptors i) slot.sent i t) stood (sound.attempts i) in
       let voted = subst (λ s. AttemptStands slot.votes slot.sent n a s) sending attempt.stands in

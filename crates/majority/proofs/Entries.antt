@@ -14,7 +14,8 @@ module _ {X : Type 0} where
       ]
 
   -- what holds of the changed entry, and of each other one, holds of all
-  pub with_entry-cases : (P : ℕ → X → Type 0) (i : ℕ) (x : X) (entries : ℕ → X) → P i x → ((j : ℕ) → (j ≡ i → ⊥) → P j (entries j)) → (j : ℕ) → P j (with_entry i x entries j)
+  pub with_entry-cases : (P : ℕ → X → Type 0) (i : ℕ) (x : X) (entries : ℕ → X) → P i x → ((j : ℕ) → (j ≡ i → ⊥) → P j (entries j)) → (j : ℕ)
+      → P j (with_entry i x entries j)
   with_entry-cases P i x entries here others j =
       elim (eqb_tells j i) [
         | inl same ↦ rw same.0 (subst (λ k. P k x) (sym same.1) here)

@@ -13,7 +13,8 @@ module _ {V : Type 0} where
   -- votes, promises and messages are kept, and each new vote is at a ballot that its replica's promise did not pass
   pub record Grows (votes votes' : List (Vote V)) (bars bars' : ℕ → Option ℕ) (sent sent' : List (Message V)) : Type 0 where
     pub votes_kept : (replica ballot : ℕ) (value : V) → HasVote votes replica ballot value → HasVote votes' replica ballot value
-    pub votes_new : (replica ballot : ℕ) (value : V) → HasVote votes' replica ballot value → HasVote votes replica ballot value ⊎ (Reaches (bars replica) (suc ballot) → ⊥)
+    pub votes_new : (replica ballot : ℕ) (value : V) → HasVote votes' replica ballot value
+        → HasVote votes replica ballot value ⊎ (Reaches (bars replica) (suc ballot) → ⊥)
     pub bars_grow : (replica ballot : ℕ) → Reaches (bars replica) ballot → Reaches (bars' replica) ballot
     pub sent_kept : (message : Message V) → Contains sent message → Contains sent' message
 
@@ -42,7 +43,8 @@ module _ {V : Type 0} where
     Tells-kept from ballot (Some report) barred tells =
         (tells.0, grows.votes_kept from report.0 report.1 tells.1, λ other above below. HasNoVote-kept from other (Reaches-lower (bars from) ballot (suc other) barred (omega arith)) (tells.2 other above below))
 
-    pub PromisesTell-kept : (n from ballot : ℕ) (report : Option (ℕ × V)) → PromisesTell n votes bars from ballot report → PromisesTell n votes' bars' from ballot report
+    pub PromisesTell-kept : (n from ballot : ℕ) (report : Option (ℕ × V)) → PromisesTell n votes bars from ballot report
+        → PromisesTell n votes' bars' from ballot report
     PromisesTell-kept n from ballot report promise =
         record {
           within = promise.within;

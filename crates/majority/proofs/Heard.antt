@@ -13,7 +13,8 @@ use Rattle.majority.proofs.Safety.{IsOfVote}
 
 module _ {V : Type 0} where
   -- the greater of two reports is the second where its ballot is greater, else the first
-  greater_report-cases : (P : Option (ℕ × V) → Type 0) (p q : ℕ × V) → (p.0 < q.0 → P (Some q)) → (q.0 ≤ p.0 → P (Some p)) → P (greater_report (Some p) (Some q))
+  greater_report-cases : (P : Option (ℕ × V) → Type 0) (p q : ℕ × V) → (p.0 < q.0 → P (Some q)) → (q.0 ≤ p.0 → P (Some p))
+      → P (greater_report (Some p) (Some q))
   greater_report-cases P p q later earlier =
       elim (leb_tells (suc p.0) q.0) [
         | inl above ↦ rw above.0 (later (omega arith))
@@ -47,18 +48,21 @@ module _ {V : Type 0} where
   IsOfVote-greater votes (Some p) None h k = h
   IsOfVote-greater votes (Some p) (Some q) h k = greater_report-cases (IsOfVote votes) p q (λ _. k) (λ _. h)
 
-  WasReported-greater : (sent : List (Message V)) (ballot : ℕ) (p q : Option (ℕ × V)) → WasReported sent ballot p → WasReported sent ballot q → WasReported sent ballot (greater_report p q)
+  WasReported-greater : (sent : List (Message V)) (ballot : ℕ) (p q : Option (ℕ × V)) → WasReported sent ballot p → WasReported sent ballot q
+      → WasReported sent ballot (greater_report p q)
   WasReported-greater sent ballot None q h k = k
   WasReported-greater sent ballot (Some p) None h k = h
   WasReported-greater sent ballot (Some p) (Some q) h k = greater_report-cases (WasReported sent ballot) p q (λ _. k) (λ _. h)
 
-  WasReported-sent : (sent : List (Message V)) (from ballot : ℕ) (report : Option (ℕ × V)) → Contains sent (Promise from ballot report) → WasReported sent ballot report
+  WasReported-sent : (sent : List (Message V)) (from ballot : ℕ) (report : Option (ℕ × V)) → Contains sent (Promise from ballot report)
+      → WasReported sent ballot report
   WasReported-sent sent from ballot None member = tt
   WasReported-sent sent from ballot (Some report) member = (from, member)
 
   -- what was reported at the ballot is of a vote
   pub IsOfVote-reported : (n : ℕ) (votes : List (Vote V)) (bars : ℕ → Option ℕ) (sent : List (Message V)) (ballot : ℕ) (report : Option (ℕ × V)) →
-      ((from : ℕ) (told : Option (ℕ × V)) → Contains sent (Promise from ballot told) → PromisesTell n votes bars from ballot told) → WasReported sent ballot report → IsOfVote votes report
+      ((from : ℕ) (told : Option (ℕ × V)) → Contains sent (Promise from ballot told) → PromisesTell n votes bars from ballot told)
+      → WasReported sent ballot report → IsOfVote votes report
   IsOfVote-reported n votes bars sent ballot None tell was = tt
   IsOfVote-reported n votes bars sent ballot (Some report) tell was = (was.0, (tell was.0 (Some report) was.1).tells.1)
 
@@ -69,18 +73,21 @@ module _ {V : Type 0} where
   pub IsOfVote-own : (n : ℕ) (votes : List (Vote V)) (i : ℕ) (own : AcceptorState V) → AcceptorIsItems n votes i own → IsOfVote votes own.accepted
   IsOfVote-own n votes i own holds = IsOfVote-last votes i own.accepted holds.last
 
-  Tells-last : (votes : List (Vote V)) (i b : ℕ) (last : Option (ℕ × V)) → ((c : ℕ) (w : V) → HasVote votes i c w → c ≤ b) → IsLastVote votes i last → Tells votes i b last
+  Tells-last : (votes : List (Vote V)) (i b : ℕ) (last : Option (ℕ × V)) → ((c : ℕ) (w : V) → HasVote votes i c w → c ≤ b) → IsLastVote votes i last
+      → Tells votes i b last
   Tells-last votes i b None bound holds = λ other below value vote. holds other value vote
   Tells-last votes i b (Some last) bound holds =
       (bound last.0 last.1 holds.0, holds.0, λ other above below value vote. let most = holds.1 other value vote in omega arith)
 
   -- an acceptor whose promise does not pass the ballot tells the truth by its acceptance
-  pub Tells-own : (n : ℕ) (votes : List (Vote V)) (i b : ℕ) (own : AcceptorState V) → AcceptorIsItems n votes i own → (Reaches own.promised (suc b) → ⊥) → Tells votes i b own.accepted
+  pub Tells-own : (n : ℕ) (votes : List (Vote V)) (i b : ℕ) (own : AcceptorState V) → AcceptorIsItems n votes i own → (Reaches own.promised (suc b) → ⊥)
+      → Tells votes i b own.accepted
   Tells-own n votes i b own holds free =
       Tells-last votes i b own.accepted (λ c w vote. Reaches-bound own.promised b c free (holds.barred c w vote)) holds.last
 
   -- one more promise is heard
-  pub AttemptsHavePromises-heard : (sent : List (Message V)) (from : ℕ) (report : Option (ℕ × V)) (a : Attempt V) → Contains sent (Promise from a.ballot report) →
+  pub AttemptsHavePromises-heard : (sent : List (Message V)) (from : ℕ) (report : Option (ℕ × V)) (a : Attempt V)
+      → Contains sent (Promise from a.ballot report) →
       AttemptsHavePromises sent a → AttemptsHavePromises sent (with_heard from report a)
   AttemptsHavePromises-heard sent from report a member have =
       record {

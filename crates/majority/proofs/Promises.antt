@@ -31,15 +31,18 @@ most_from_test n count replicas same test =
 module _ {V : Type 0} where
   -- What an answer says of the attempt that gave it.
 
-  unsent : (sending : Option V) (rest answer : PromiseAnswer V) → (answer ≡ promise.Late → ⊥) → (if is_some sending then promise.Late else rest) ≡ answer → (sending ≡ None) × (rest ≡ answer)
+  unsent : (sending : Option V) (rest answer : PromiseAnswer V) → (answer ≡ promise.Late → ⊥) → (if is_some sending then promise.Late else rest) ≡ answer
+      → (sending ≡ None) × (rest ≡ answer)
   unsent None rest answer other e = (refl, e)
   unsent (Some value) rest answer other e = absurd (other (sym e))
 
-  free : (o : Option ℕ) (own : AcceptorState V) (heard : Attempt V) (value : V) → promise_answer_unless o own heard ≡ promise.Send value → (o ≡ None) × (promise_answer_heard own heard ≡ promise.Send value)
+  free : (o : Option ℕ) (own : AcceptorState V) (heard : Attempt V) (value : V) → promise_answer_unless o own heard ≡ promise.Send value
+      → (o ≡ None) × (promise_answer_heard own heard ≡ promise.Send value)
   free None own heard value e = (refl, e)
   free (Some promised) own heard value e = absurd (cc)
 
-  enough : (test : Bool) (x value : V) (have : ℕ) → (let r : PromiseAnswer V = if test then promise.Send x else promise.Waiting have in r) ≡ promise.Send value → (test ≡ true) × (x ≡ value)
+  enough : (test : Bool) (x value : V) (have : ℕ) → (let r : PromiseAnswer V = if test then promise.Send x else promise.Waiting have in r) ≡ promise.Send value
+      → (test ≡ true) × (x ≡ value)
   enough true x value have e = (refl, cc)
   enough false x value have e = absurd (cc)
 
@@ -107,7 +110,8 @@ module _ {V : Type 0} where
         (has_told e below)
 
     -- the attempt sends a value that is safe at its ballot
-    IsSound-send : (value : V) → a.sending ≡ None → (Reaches (bars_of slot.acceptors i) (suc a.ballot) → ⊥) → IsSafeAt n slot.votes (bars_of slot.acceptors) a.ballot value →
+    IsSound-send : (value : V) → a.sending ≡ None → (Reaches (bars_of slot.acceptors i) (suc a.ballot) → ⊥)
+        → IsSafeAt n slot.votes (bars_of slot.acceptors) a.ballot value →
         IsSound n (promise_answered (promise.Send value) i from report a slot)
     IsSound-send value e below is_safe =
         let b = a.ballot in
@@ -136,7 +140,8 @@ module _ {V : Type 0} where
               (others_kept n i b value slot message below attempt.owned sound);
         }
 
-    IsSound-answered : slot.attempts i ≡ Some a → (answer : PromiseAnswer V) → promise_answer from report (slot.acceptors i) a ≡ answer → IsSound n (promise_answered answer i from report a slot)
+    IsSound-answered : slot.attempts i ≡ Some a → (answer : PromiseAnswer V) → promise_answer from report (slot.acceptors i) a ≡ answer
+        → IsSound n (promise_answered answer i from report a slot)
     IsSound-answered stood promise.Late e =
         IsSound-same n slot (with_entry i (slot.acceptors i) slot.acceptors) (with_entry i (Some a) slot.attempts) (with_entry-kept i (slot.acceptors i) slot.acceptors refl) (with_entry-kept i (Some a) slot.attempts stood) sound
     IsSound-answered stood (promise.Lower promised) e =
@@ -152,7 +157,8 @@ module _ {V : Type 0} where
         let below = not_passed (slot.acceptors i).promised a.ballot open_to.0 in
         IsSound-send value quiet.0 below (subst (IsSafeAt n slot.votes (bars_of slot.acceptors) a.ballot) majority.1 (safe quiet.0 below majority.0))
 
-  pub IsSound-promise : (n i from ballot : ℕ) (report : Option (ℕ × V)) (slot : SlotState V) → i < n → Contains slot.sent (Promise from ballot report) → IsSound n slot →
+  pub IsSound-promise : (n i from ballot : ℕ) (report : Option (ℕ × V)) (slot : SlotState V) → i < n → Contains slot.sent (Promise from ballot report)
+      → IsSound n slot →
       (stood : Option (Attempt V)) → slot.attempts i ≡ stood → IsSound n (promise_comes i from ballot report stood slot)
   IsSound-promise n i from ballot report slot within member sound None e = sound
   IsSound-promise n i from ballot report slot within member sound (Some a) e =

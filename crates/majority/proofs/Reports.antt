@@ -19,7 +19,8 @@ module _ {V : Type 0} where
   greater_report_assoc (Some a) (Some b) None = greater_report-none (greater_report (Some a) (Some b))
   greater_report_assoc (Some a) (Some b) (Some c) = grind (arith, nat_tests)
 
-  pub greatest_at-past : (slot : ℕ) (journals : List (VoteJournal V)) → All (λ (journal : VoteJournal V). length journal.votes ≤ slot) journals → greatest_at slot journals ≡ None
+  pub greatest_at-past : (slot : ℕ) (journals : List (VoteJournal V)) → All (λ (journal : VoteJournal V). length journal.votes ≤ slot) journals
+      → greatest_at slot journals ≡ None
   greatest_at-past slot [] h = refl
   greatest_at-past slot (journal ∷ journals) h =
       let here : slice_get journal.votes slot ≡ None = slice_get_past journal.votes slot (All-head (λ (j : VoteJournal V). length j.votes ≤ slot) journal journals h) in

@@ -23,7 +23,8 @@ module _ {V : Type 0} where
     pub covered : Covers greatest report
 
   -- where nothing greater is reported than nothing, no vote stands below the ballot
-  nothing_told : (votes : List (Vote V)) (replica ballot lower : ℕ) (report : Option (ℕ × V)) → Tells votes replica ballot report → Covers None report → lower < ballot → HasNoVote votes replica lower
+  nothing_told : (votes : List (Vote V)) (replica ballot lower : ℕ) (report : Option (ℕ × V)) → Tells votes replica ballot report → Covers None report
+      → lower < ballot → HasNoVote votes replica lower
   nothing_told votes replica ballot lower None tells covered below = tells lower below
   nothing_told votes replica ballot lower (Some report) tells covered below = absurd covered
 

@@ -2,7 +2,7 @@
 use Rattle.std.proofs.Common.{◌≡◌, ℕ, zero, suc, ◌+◌, ◌*◌, ◌%◌, ◌^◌, ◌<◌, ◌≤◌, ◌==◌, Bool, true, false, List, [], ◌∷◌, ◌++◌, length, nat_lt, nat_eq, Option, Some, None, slice_get, All, Contains, ◌⊎◌, inl, inr, refl, sym, ap, ◌∙◌, subst, arith, if◌then◌else◌}
 use Rattle.std.proofs.lemmas.Bool.Decides.{leb_tells}
 use Rattle.majority.specs.Proposers.{Attempt, ballot_for}
-use Rattle.majority.specs.Votes.{Vote, HasVote, IsChosenAt, IsChosen}
+use Rattle.majority.specs.Votes.{Vote, HasVote, IsChosenAt, IsChosenByVotes}
 use Rattle.majority.specs.Slot.{Message, Prepare, Promise, Accept, Accepted, SlotEvent, Start, Comes, Restart, SlotState, fresh_slot, with_entry, slot_started, start_happens, message_comes, slot_after, slot_run}
 use Rattle.majority.proofs.Lists.{Contains-here, Contains-later, Contains-none}
 use Rattle.majority.proofs.Agreement.{IsSound, IsAgreed}
@@ -44,13 +44,15 @@ module _ {V : Type 0} where
       }
 
   -- a message that was sent comes
-  pub IsSound-message : (n i : ℕ) (message : Message V) (slot : SlotState V) → i < n → Contains slot.sent message → IsSound n slot → IsSound n (message_comes i (Some message) slot)
+  pub IsSound-message : (n i : ℕ) (message : Message V) (slot : SlotState V) → i < n → Contains slot.sent message → IsSound n slot
+      → IsSound n (message_comes i (Some message) slot)
   IsSound-message n i (Prepare ballot) slot within member sound = IsSound-prepare n i ballot slot within sound
   IsSound-message n i (Promise from ballot report) slot within member sound = IsSound-promise n i from ballot report slot within member sound (slot.attempts i) refl
   IsSound-message n i (Accept ballot value) slot within member sound = IsSound-accept n i ballot value slot within member sound
   IsSound-message n i (Accepted from ballot) slot within member sound = IsSound-accepted n i from ballot slot member sound (slot.attempts i) refl
 
-  comes : (n i : ℕ) (o : Option (Message V)) (slot : SlotState V) → i < n → ((message : Message V) → o ≡ Some message → Contains slot.sent message) → IsSound n slot → IsSound n (message_comes i o slot)
+  comes : (n i : ℕ) (o : Option (Message V)) (slot : SlotState V) → i < n → ((message : Message V) → o ≡ Some message → Contains slot.sent message)
+      → IsSound n slot → IsSound n (message_comes i o slot)
   comes n i None slot within member sound = sound
   comes n i (Some message) slot within member sound = IsSound-message n i message slot within (member message refl) sound
 

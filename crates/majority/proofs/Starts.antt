@@ -40,7 +40,8 @@ module _ {V : Type 0} where
   IsSound-restart n i slot sound = IsSound-attempt n i slot None sound tt
 
   -- a vote that its owner casts at an unvoted ballot leaves the attempts of others
-  pub others_kept : (n i b : ℕ) (v : V) (slot : SlotState V) (message : Message V) → (Reaches (bars_of slot.acceptors i) (suc b) → ⊥) → b % n ≡ i → IsSound n slot → (j : ℕ) → (j ≡ i → ⊥) →
+  pub others_kept : (n i b : ℕ) (v : V) (slot : SlotState V) (message : Message V) → (Reaches (bars_of slot.acceptors i) (suc b) → ⊥) → b % n ≡ i
+      → IsSound n slot → (j : ℕ) → (j ≡ i → ⊥) →
       IsAttemptIfAny n (record { replica = i; ballot = b; value = v } ∷ slot.votes) (bars_of (with_entry i (with_vote b v (slot.acceptors i)) slot.acceptors) j) (message ∷ slot.sent) j (slot.attempts j)
   others_kept n i b v slot message free owned sound j other =
       IsAttemptIfAny-kept slot.votes (record { replica = i; ballot = b; value = v } ∷ slot.votes) (bars_of slot.acceptors) (bars_of (with_entry i (with_vote b v (slot.acceptors i)) slot.acceptors)) slot.sent (message ∷ slot.sent)

@@ -42,14 +42,16 @@ module _ {V : Type 0} where
   Reaches-here i b own held reached = subst (λ (a : AcceptorState V). Reaches a.promised b) (sym (with_entry-here i own held)) reached
 
   -- the same slot, with an acceptor and an attempt set to what they were
-  pub IsSound-same : (n : ℕ) (slot : SlotState V) (held : ℕ → AcceptorState V) (attempts : ℕ → Option (Attempt V)) → held ≡ slot.acceptors → attempts ≡ slot.attempts → IsSound n slot →
+  pub IsSound-same : (n : ℕ) (slot : SlotState V) (held : ℕ → AcceptorState V) (attempts : ℕ → Option (Attempt V)) → held ≡ slot.acceptors
+      → attempts ≡ slot.attempts → IsSound n slot →
       IsSound n (record { acceptors = held; attempts = attempts; votes = slot.votes; sent = slot.sent })
   IsSound-same n slot held attempts e f sound =
       subst (λ h. IsSound n (record { acceptors = h; attempts = attempts; votes = slot.votes; sent = slot.sent })) (sym e)
       (subst (λ t. IsSound n (record { acceptors = slot.acceptors; attempts = t; votes = slot.votes; sent = slot.sent })) (sym f) sound)
 
   -- a vote leaves a ballot unvoted that is another one
-  pub HasNoVote-other : (votes : List (Vote V)) (i b : ℕ) (v : V) (ballot : ℕ) → (b ≡ ballot → ⊥) → ((j : ℕ) → HasNoVote votes j ballot) → (j : ℕ) → HasNoVote (record { replica = i; ballot = b; value = v } ∷ votes) j ballot
+  pub HasNoVote-other : (votes : List (Vote V)) (i b : ℕ) (v : V) (ballot : ℕ) → (b ≡ ballot → ⊥) → ((j : ℕ) → HasNoVote votes j ballot) → (j : ℕ)
+      → HasNoVote (record { replica = i; ballot = b; value = v } ∷ votes) j ballot
   HasNoVote-other votes i b v ballot other none j w vote =
       HasVote-elim (λ j c w. c ≡ ballot → ⊥) i b v votes other (λ j c w old same. none j w (subst (λ d. HasVote votes j d w) same old)) j ballot w vote refl
 

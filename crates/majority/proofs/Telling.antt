@@ -6,7 +6,7 @@ use Rattle.std.proofs.lemmas.Bool.{cases_lt}
 use Rattle.majority.specs.Ballots.{IsMajority}
 use Rattle.majority.specs.Acceptors.{AcceptorState}
 use Rattle.majority.specs.Proposers.{greater_report}
-use Rattle.majority.specs.Votes.{Vote, HasVote, IsChosen, IsChosenAt}
+use Rattle.majority.specs.Votes.{Vote, HasVote, IsChosenByVotes, IsChosenAt}
 use Rattle.majority.specs.Journals.{vote_found, greatest_at, IsRecovered, AreOfReplicas, HoldAcceptances}
 use Rattle.majority.specs.declared.journal.VoteJournal.{VoteJournal}
 use Rattle.majority.specs.Slot.{Message}
@@ -28,7 +28,8 @@ Contains-map f (x ∷ xs) y member =
 
 module _ {V : Type 0} where
   -- the greatest acceptance that journals have is of no lower ballot than that of each
-  Covers-each : (place : ℕ) (journals : List (VoteJournal V)) (journal : VoteJournal V) → Contains journals journal → Covers (greatest_at place journals) (vote_found (slice_get journal.votes place))
+  Covers-each : (place : ℕ) (journals : List (VoteJournal V)) (journal : VoteJournal V) → Contains journals journal
+      → Covers (greatest_at place journals) (vote_found (slice_get journal.votes place))
   Covers-each place [] journal member = absurd (Contains-none journal member)
   Covers-each place (first ∷ journals) journal member =
       let here = vote_found (slice_get first.votes place) in
@@ -37,7 +38,8 @@ module _ {V : Type 0} where
         | inr later ↦ Covers-second here (greatest_at place journals) (vote_found (slice_get journal.votes place)) (Covers-each place journals journal later)
       ]
 
-  IsOfVote-journals : (n : ℕ) (held : ℕ → AcceptorState V) (votes : List (Vote V)) (sent : List (Message V)) (place : ℕ) (journals : List (VoteJournal V)) → IsAgreed n held votes sent → HoldAcceptances held place journals → IsOfVote votes (greatest_at place journals)
+  IsOfVote-journals : (n : ℕ) (held : ℕ → AcceptorState V) (votes : List (Vote V)) (sent : List (Message V)) (place : ℕ) (journals : List (VoteJournal V))
+      → IsAgreed n held votes sent → HoldAcceptances held place journals → IsOfVote votes (greatest_at place journals)
   IsOfVote-journals n held votes sent place [] agreed hold = tt
   IsOfVote-journals n held votes sent place (first ∷ journals) agreed hold =
       let P : VoteJournal V → Type 0 = λ journal. vote_found (slice_get journal.votes place) ≡ (held journal.replica).accepted in
@@ -46,7 +48,8 @@ module _ {V : Type 0} where
       (subst (IsOfVote votes) (sym (All-head P first journals hold)) (IsOfVote-own n votes first.replica (held first.replica) (agreed.acceptors first.replica)))
       (IsOfVote-journals n held votes sent place journals agreed (All-tail P first journals hold))
 
-  reached : (votes : List (Vote V)) (i b : ℕ) (v : V) (last greatest : Option (ℕ × V)) → HasVote votes i b v → IsLastVote votes i last → Covers greatest last → (g : ℕ × V) × (greatest ≡ Some g) × (b ≤ g.0)
+  reached : (votes : List (Vote V)) (i b : ℕ) (v : V) (last greatest : Option (ℕ × V)) → HasVote votes i b v → IsLastVote votes i last → Covers greatest last
+      → (g : ℕ × V) × (greatest ≡ Some g) × (b ≤ g.0)
   reached votes i b v None greatest vote holds covered = absurd (holds b v vote)
   reached votes i b v (Some last) None vote holds covered = absurd covered
   reached votes i b v (Some last) (Some g) vote holds covered =
@@ -55,7 +58,8 @@ module _ {V : Type 0} where
       (g, refl, omega arith)
 
   -- some journal is of a replica that voted the chosen value
-  journal_of_voter : (n : ℕ) (votes : List (Vote V)) (journals : List (VoteJournal V)) (b : ℕ) (v : V) → IsChosenAt n votes b v → AreOfReplicas n journals → n < 2 * length journals →
+  journal_of_voter : (n : ℕ) (votes : List (Vote V)) (journals : List (VoteJournal V)) (b : ℕ) (v : V) → IsChosenAt n votes b v → AreOfReplicas n journals
+      → n < 2 * length journals →
       (journal : VoteJournal V) × Contains journals journal × HasVote votes journal.replica b v
   journal_of_voter n votes journals b v chosen replicas most =
       let number : VoteJournal V → ℕ = λ journal. journal.replica in
@@ -80,7 +84,7 @@ module _ {V : Type 0} where
 
   -- journals of a majority tell the chosen value, at the greatest ballot
   pub greatest_at-chosen : (n : ℕ) (held : ℕ → AcceptorState V) (votes : List (Vote V)) (sent : List (Message V)) (place : ℕ) (journals : List (VoteJournal V)) (v : V) →
-      IsAgreed n held votes sent → IsChosen n votes v → AreOfReplicas n journals → n < 2 * length journals → HoldAcceptances held place journals →
+      IsAgreed n held votes sent → IsChosenByVotes n votes v → AreOfReplicas n journals → n < 2 * length journals → HoldAcceptances held place journals →
       (ballot : ℕ) × (greatest_at place journals ≡ Some (ballot, v))
   greatest_at-chosen n held votes sent place journals v agreed chosen replicas most hold =
       let voter = journal_of_voter n votes journals chosen.0 v chosen.1 replicas most in
@@ -90,7 +94,8 @@ module _ {V : Type 0} where
       (top.0.0, top.1 ∙ ap (λ w. Some (top.0.0, w)) value)
 
   -- and what is recovered from them has it in its place
-  pub slice_get-recovered : (journals : List (VoteJournal V)) (values : List V) (place ballot : ℕ) (v : V) → IsRecovered journals values → place ≤ length values → greatest_at place journals ≡ Some (ballot, v) → slice_get values place ≡ Some v
+  pub slice_get-recovered : (journals : List (VoteJournal V)) (values : List V) (place ballot : ℕ) (v : V) → IsRecovered journals values → place ≤ length values
+      → greatest_at place journals ≡ Some (ballot, v) → slice_get values place ≡ Some v
   slice_get-recovered journals values place ballot v recovered within greatest =
       elim (cases_lt place (length values)) [
         | inl below ↦ sym (recovered.each place below) ∙ ap (option_map (λ (vote : ℕ × V). vote.1)) greatest

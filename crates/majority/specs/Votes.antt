@@ -18,5 +18,5 @@ IsChosenAt n votes ballot value =
     (voters : List ℕ) × IsMajority n voters × All (λ replica. HasVote votes replica ballot value) voters
 
 -- a majority accepted the value at one ballot
-abbrev pub IsChosen : {V : Type 0} → ℕ → List (Vote V) → V → Type 0
-IsChosen n votes value = (ballot : ℕ) × IsChosenAt n votes ballot value
+abbrev pub IsChosenByVotes : {V : Type 0} → ℕ → List (Vote V) → V → Type 0
+IsChosenByVotes n votes value = (ballot : ℕ) × IsChosenAt n votes ballot value

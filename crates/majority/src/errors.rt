@@ -1,5 +1,3 @@
-use quota_table::OutOfMemory;
-use std::alloc::AllocError;
 use thiserror::Error;
 
 /// Why an attempt does not start. The acceptor is as it was.
@@ -16,17 +14,6 @@ pub enum StartError {
     OutOfMemory,
 }
 
-impl From<AllocError> for StartError {
-    ghost use Rattle.std.specs.Prelude.{◌≡◌};
-    ghost use Rattle.majority.specs.declared.errors.StartError.TheVariants as variants;
-
-    ghost from_gives = { λ _ error. error ≡ variants.OutOfMemory };
-
-    fn from(_: AllocError) -> StartError {
-        StartError::OutOfMemory
-    }
-}
-
 /// Why journals tell no values.
 #[derive(Clone, Copy, Debug, Drop, Error, PartialEq, Eq)]
 pub enum RecoverError {
@@ -41,26 +28,4 @@ pub enum RecoverError {
     /// Memory was refused.
     #[error("out of memory")]
     OutOfMemory,
-}
-
-impl From<AllocError> for RecoverError {
-    ghost use Rattle.std.specs.Prelude.{◌≡◌};
-    ghost use Rattle.majority.specs.declared.errors.RecoverError.TheVariants as variants;
-
-    ghost from_gives = { λ _ error. error ≡ variants.OutOfMemory };
-
-    fn from(_: AllocError) -> RecoverError {
-        RecoverError::OutOfMemory
-    }
-}
-
-impl From<OutOfMemory> for RecoverError {
-    ghost use Rattle.std.specs.Prelude.{◌≡◌};
-    ghost use Rattle.majority.specs.declared.errors.RecoverError.TheVariants as variants;
-
-    ghost from_gives = { λ _ error. error ≡ variants.OutOfMemory };
-
-    fn from(_: OutOfMemory) -> RecoverError {
-        RecoverError::OutOfMemory
-    }
 }

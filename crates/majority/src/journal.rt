@@ -42,7 +42,7 @@ pub fn recover<V: Clone>(
             need: n / 2 + 1,
         });
     }
-    Ok(told_values(alloc, journals)?)
+    told_values(alloc, journals).map_err(|_| RecoverError::OutOfMemory)
 }
 
 /// The values that the journals tell, however few they are.

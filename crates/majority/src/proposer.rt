@@ -90,7 +90,7 @@ impl<V: Clone> Proposer<V> {
             return Err(StartError::NoBallot { highest });
         }
         if ballot == 0 {
-            Ok(Proposer::start_sending(replica, n, own, wish)?)
+            Proposer::start_sending(replica, n, own, wish).map_err(|_| StartError::OutOfMemory)
         } else {
             own.promise(ballot as u32);
             Ok(Proposer::waiting(replica, n, ballot as u32, wish))

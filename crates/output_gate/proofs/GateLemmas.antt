@@ -2,7 +2,7 @@
 use Rattle.std.proofs.Common.{◌≡◌, ℕ, ◌+◌, ◌<◌, ◌≤◌, true, false, List, [], ◌∷◌, ◌++◌, length, Option, Some, None, refl, sym, ap, ◌∙◌, subst, append_assoc, length-append, arith}
 use Rattle.std.proofs.lemmas.List.{append-nil}
 use Rattle.app_law.specs.Positions.{below, from_on, IsRising, IsPast}
-use Rattle.app_law.proofs.PositionLemmas.{below-push, below-past, below-first, from_on-first}
+use Rattle.app_law.proofs.PositionLemmas.{below-push, below-past, below-first, from_on-first, from_on-all}
 use Rattle.app_law.proofs.EndLemmas.{Newest, Oldest}
 use Rattle.output_gate.specs.declared.kept.KeptOut.{KeptOut}
 use Rattle.output_gate.specs.Gates.{Gate, out_position, gate_below, gate_from}
@@ -59,6 +59,13 @@ room-taken p x old new into h e room =
 
 pub from-none : (p : ℕ) (v : Gate) → from_on out_position p v.held ≡ v.held → gate_from v p ≡ v
 from-none p v h = ap (λ held. record { room = v.room; held = held }) h
+
+-- where one output alone stands below a position, taking it leaves what stands from there on
+pub only-taken : (p : ℕ) (x : KeptOut) (old new : Gate) → x.position < p → old ≡ record { room = new.room; held = x ∷ new.held } → length (below out_position p old.held) ≡ 1 → new ≡ gate_from old p
+only-taken p x old new h e one =
+    let here = ap length (below-taken p x old new h e) in
+    let none : length (below out_position p new.held) ≡ 0 = omega arith in
+    sym (from-taken p x old new h e ∙ from-none p new (from_on-all out_position p new.held none))
 
 pub released-none : (p : ℕ) (v : Gate) (into : List KeptOut) → below out_position p v.held ≡ [] → into ≡ into ++ below out_position p v.held
 released-none p v into h = sym (append-nil into) ∙ ap (λ rest. into ++ rest) (sym h)

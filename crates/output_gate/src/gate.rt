@@ -58,8 +58,8 @@ impl OutputGate {
         }
     }
 
-    /// The oldest output, where it stands below a position.
-    fn take_oldest(&mut self, position: u64) -> Option<KeptOut>
+    /// Gives the oldest output, where it stands below a position.
+    pub fn take_oldest(&mut self, position: u64) -> Option<KeptOut>
         ensures { TakesOldest position self.old self.new result }
     {
         self.held.pop_front_if(|kept| kept.position < position)

@@ -1,8 +1,5 @@
-ghost use Rattle.std.specs.Prelude.{◌≡◌, ◌<◌, ◌++◌, ◌∷◌, ◌≤◌, [], length};
-
-use arrayvec::ArrayVec;
+use quota_table::Few;
 use record_codec::Output;
-use std::marker::Model;
 
 /// The greatest number of outputs that one call releases.
 pub const MOST_KEPT: usize = 3;
@@ -23,43 +20,5 @@ impl Default for KeptOut {
     }
 }
 
-/// At most three outputs that were released, in order. Contracts see it as that list.
-#[derive(Debug, Drop)]
-pub struct Kept {
-    items: ArrayVec<KeptOut, 3>,
-}
-
-impl Model for Kept {
-    ghost use Rattle.std.specs.Prelude.{List};
-    ghost use Rattle.output_gate.specs.declared.kept.KeptOut.{KeptOut};
-
-    ghost Value = { List KeptOut };
-
-    ghost view = { λ k. k.items.items };
-}
-
-impl Kept {
-    /// No output yet.
-    pub fn new() -> Kept
-        ensures { result ≡ [] }
-    {
-        Kept {
-            items: ArrayVec::new(),
-        }
-    }
-
-    /// The outputs, in order.
-    pub fn as_slice(&self) -> &[KeptOut]
-        ensures outputs { result.now ≡ self.now }
-        ensures within { length self.now ≤ 3 }
-    {
-        self.items.as_slice()
-    }
-
-    pub(crate) fn push(&mut self, kept: KeptOut)
-        requires { length self.old < 3 }
-        ensures { self.new ≡ self.old ++ kept ∷ [] }
-    {
-        self.items.push(kept);
-    }
-}
+/// At most three outputs that were released, in order.
+pub type Kept = Few<KeptOut, 3>;

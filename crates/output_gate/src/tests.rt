@@ -63,3 +63,20 @@ fn drops_and_holds_again(rt: HostRuntime) -> Result<(), Fail> {
     gate.release_below(5, &mut kept);
     gives(&rt, &kept, &[(2, "a\n"), (3, "B\n"), (4, "C\n")])
 }
+
+#[test]
+fn takes_the_oldest_alone(rt: HostRuntime) -> Result<(), Fail> {
+    let mut gate = OutputGate::with_room(rt.alloc(), 2)?;
+    gate.hold(5, output(b"a\n"));
+    gate.hold(6, output(b"b\n"));
+    assert!(rt; gate.take_oldest(5).is_none());
+    for (position, text) in [(5, "a\n"), (6, "b\n")] {
+        let Some(kept) = gate.take_oldest(7) else {
+            return Err(Fail::new("no output"));
+        };
+        assert_eq!(rt; kept.position, position);
+        assert_eq!(rt; kept.out.as_slice(), text.as_bytes());
+    }
+    assert!(rt; gate.take_oldest(7).is_none());
+    Ok(())
+}

@@ -1,3 +1,4 @@
+-- Rows without a fault make a table, and its quotas add up to 1 to 384.
 use Rattle.std.proofs.Common.{◌≡◌, ℕ, ◌*◌, ◌≤◌, ◌==◌, ◌||◌, ◌&&◌, true, false, not, List, [], ◌∷◌, ◌++◌, length, map, Option, Some, None, refl, sym, ap, ◌∙◌, inl, inr, arith}
 use Rattle.std.specs.List.{list_any, list_all}
 use Rattle.std.specs.Option.{option_or}
@@ -9,7 +10,7 @@ use Rattle.quota_table.specs.declared.rows.Asked.{Asked}
 use Rattle.quota_table.specs.declared.rows.Row.{Row}
 use Rattle.quota_table.specs.declared.errors.TableError.{TableError}
 use Rattle.quota_table.specs.Rows.{IsTable, is_row, is_distinct, has_shard}
-use Rattle.quota_table.specs.Tables.{row_of, row_fault, rows_fault, quotas_of}
+use Rattle.quota_table.specs.Tables.{asked_row, row_fault, rows_fault, quotas_of}
 
 -- neither of two options has a value where the first that has one is none
 option_or-none : (o p : Option TableError) → option_or o p ≡ None → (o ≡ None) × (p ≡ None)
@@ -21,11 +22,12 @@ fresh_row : (earlier : List Asked) (a : Asked) → row_fault earlier a ≡ None 
 fresh_row earlier a e = grind (arith, nat_tests)
 
 -- a row without a fault is within the limits
-row_within : (earlier : List Asked) (a : Asked) → row_fault earlier a ≡ None → is_row (row_of a) ≡ true
+row_within : (earlier : List Asked) (a : Asked) → row_fault earlier a ≡ None → is_row (asked_row a) ≡ true
 row_within earlier a e = grind (arith, nat_tests)
 
 -- two shards of which one is among the rows and the other is not
-not_equal : (earlier : List Asked) (x y : ℕ) → list_any (λ (b : Asked). b.shard == x) earlier ≡ false → list_any (λ (b : Asked). b.shard == y) earlier ≡ true → (x == y) ≡ false
+not_equal : (earlier : List Asked) (x y : ℕ) → list_any (λ (b : Asked). b.shard == x) earlier ≡ false → list_any (λ (b : Asked). b.shard == y) earlier ≡ true
+    → (x == y) ≡ false
 not_equal earlier x y fresh h = elim (eqb_tells x y) [
   | inl same ↦ absurd (false≢true (sym fresh ∙ (ap (λ n. list_any (λ (b : Asked). b.shard == n) earlier) same.1 ∙ h)))
   | inr other ↦ other.0
@@ -36,33 +38,34 @@ shard_at_end earlier a =
     list_any-append _ earlier (a ∷ []) ∙ grind (arith, nat_tests)
 
 -- a shard of the earlier rows is in none of those that follow without a fault
-fresh_rows : (earlier rest : List Asked) (shard : ℕ) → rows_fault earlier rest ≡ None → list_any (λ (b : Asked). b.shard == shard) earlier ≡ true → has_shard shard (map row_of rest) ≡ false
+fresh_rows : (earlier rest : List Asked) (shard : ℕ) → rows_fault earlier rest ≡ None → list_any (λ (b : Asked). b.shard == shard) earlier ≡ true
+    → has_shard shard (map asked_row rest) ≡ false
 fresh_rows earlier [] shard e h = refl
 fresh_rows earlier (b ∷ rest) shard e h =
     let parts : (row_fault earlier b ≡ None) × (rows_fault (earlier ++ b ∷ []) rest ≡ None) = option_or-none _ _ e in
     let fresh = fresh_row earlier b parts.0 in
     let later = fresh_rows (earlier ++ b ∷ []) rest shard parts.1 (list_any-append _ earlier (b ∷ []) ∙ ap (λ t. t || list_any (λ (b : Asked). b.shard == shard) (b ∷ [])) h) in
     let other : (b.shard == shard) ≡ false = not_equal earlier b.shard shard fresh h in
-    ap (λ t. t || has_shard shard (map row_of rest)) other ∙ later
+    ap (λ t. t || has_shard shard (map asked_row rest)) other ∙ later
 
-rows_within : (earlier rest : List Asked) → rows_fault earlier rest ≡ None → list_all is_row (map row_of rest) ≡ true
+rows_within : (earlier rest : List Asked) → rows_fault earlier rest ≡ None → list_all is_row (map asked_row rest) ≡ true
 rows_within earlier [] e = refl
 rows_within earlier (a ∷ rest) e =
     let parts = option_or-none _ _ e in
-    ap (λ t. t && list_all is_row (map row_of rest)) (row_within earlier a parts.0) ∙ rows_within (earlier ++ a ∷ []) rest parts.1
+    ap (λ t. t && list_all is_row (map asked_row rest)) (row_within earlier a parts.0) ∙ rows_within (earlier ++ a ∷ []) rest parts.1
 
-rows_distinct : (earlier rest : List Asked) → rows_fault earlier rest ≡ None → is_distinct (map row_of rest) ≡ true
+rows_distinct : (earlier rest : List Asked) → rows_fault earlier rest ≡ None → is_distinct (map asked_row rest) ≡ true
 rows_distinct earlier [] e = refl
 rows_distinct earlier (a ∷ rest) e =
     let parts = option_or-none _ _ e in
     let here : list_any (λ (b : Asked). b.shard == a.shard) (earlier ++ a ∷ []) ≡ true = shard_at_end earlier a in
-    ap (λ t. not t && is_distinct (map row_of rest)) (fresh_rows (earlier ++ a ∷ []) rest a.shard parts.1 here) ∙ rows_distinct (earlier ++ a ∷ []) rest parts.1
+    ap (λ t. not t && is_distinct (map asked_row rest)) (fresh_rows (earlier ++ a ∷ []) rest a.shard parts.1 here) ∙ rows_distinct (earlier ++ a ∷ []) rest parts.1
 
 -- rows without a fault make a table
-pub IsTable-from_fault : (rows : List Asked) → 1 ≤ length rows → length rows ≤ 6 → rows_fault [] rows ≡ None → IsTable (map row_of rows)
+pub IsTable-from_fault : (rows : List Asked) → 1 ≤ length rows → length rows ≤ 6 → rows_fault [] rows ≡ None → IsTable (map asked_row rows)
 IsTable-from_fault rows some few e = record {
-  some = omega (arith, length-map rows row_of);
-  few = omega (arith, length-map rows row_of);
+  some = omega (arith, length-map rows asked_row);
+  few = omega (arith, length-map rows asked_row);
   within = rows_within [] rows e;
   distinct = rows_distinct [] rows e;
 }

@@ -1,3 +1,4 @@
+-- Rows within the limits, and what every table keeps.
 use Rattle.std.specs.Prelude.{ℕ, ◌≤◌, ◌&&◌, ◌==◌, Bool, true, not, nat_lt, nat_le, List, [], ◌∷◌, length, IsTrue, nat_eq}
 use Rattle.std.specs.Ordering.{on, eq_of_both}
 use Rattle.std.specs.Cmp.Lexicographic.{pointwise}

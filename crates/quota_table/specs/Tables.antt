@@ -1,14 +1,16 @@
+-- The first fault of rows that are asked for, and the sums of quotas.
 use Rattle.std.specs.Prelude.{ℕ, ◌+◌, ◌==◌, ◌||◌, nat_lt, if◌then◌else◌, List, [], ◌∷◌, ◌++◌, length, Option, Some, None}
 use Rattle.std.specs.List.{list_any}
-use Rattle.std.specs.Option.{option_map, option_or}
+use Rattle.std.specs.Option.{option_or}
 use Rattle.quota_table.specs.declared.rows.Asked.{Asked}
 use Rattle.quota_table.specs.declared.rows.Row.{Row}
+use Rattle.quota_table.specs.Rows.{has_shard}
 use Rattle.quota_table.specs.declared.errors.TableError.{TableError}
 use Rattle.quota_table.specs.declared.errors.TableError.TheVariants.{Empty, TooMany, BadShard, Twice, BadQuota}
 
 -- the row that was asked for
-abbrev pub row_of : Asked → Row
-row_of a = record { shard = a.shard; quota = a.quota }
+abbrev pub asked_row : Asked → Row
+asked_row a = record { shard = a.shard; quota = a.quota }
 
 -- what is wrong with a row, after the rows before it
 abbrev pub row_fault : List Asked → Asked → Option TableError
@@ -35,7 +37,11 @@ abbrev pub quotas_of : List Row → ℕ
 quotas_of [] = 0
 quotas_of (r ∷ rs) = r.quota + quotas_of rs
 
--- the sum of the quotas of the rows before the shard's; none where no row is the shard's
+-- the sum of the quotas of the rows before the shard's, or of all where no row is the shard's
+abbrev pub quotas_before : List Row → ℕ → ℕ
+quotas_before [] shard = 0
+quotas_before (r ∷ rs) shard = if r.shard == shard then 0 else r.quota + quotas_before rs shard
+
+-- the same, but none where no row is the shard's
 abbrev pub offset_of : List Row → ℕ → Option ℕ
-offset_of [] shard = None
-offset_of (r ∷ rs) shard = if r.shard == shard then Some 0 else option_map (λ n. r.quota + n) (offset_of rs shard)
+offset_of rows shard = if has_shard shard rows then Some (quotas_before rows shard) else None

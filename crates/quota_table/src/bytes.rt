@@ -1,4 +1,6 @@
-ghost use Rattle.std.specs.Prelude.{◌≡◌, ◌++◌, ◌∷◌, [], length, IfOk, OnOk, OnErr, IsTrue, ◌↔◌, take};
+ghost use Rattle.std.specs.Prelude.{◌≡◌, ◌++◌, ◌∷◌, ◌↔◌, [], length, take, nat_eq, IfOk, OnOk, OnErr, IsTrue};
+ghost use Rattle.std.specs.Cmp.Lexicographic.{pointwise};
+ghost use Rattle.std.proofs.Common.{rules};
 
 use crate::errors::OutOfMemory;
 use std::alloc::{AllocError, Global};
@@ -29,10 +31,6 @@ impl Clone for Bytes {
 }
 
 impl PartialEq for Bytes {
-    ghost use Rattle.std.specs.Prelude.{nat_eq};
-    ghost use Rattle.std.specs.Cmp.Lexicographic.{pointwise};
-    ghost use Rattle.std.proofs.Common.{rules};
-
     ghost eq = { pointwise nat_eq };
 
     ghost laws = { Prim.search rules };
@@ -70,10 +68,10 @@ impl Bytes {
         })
     }
 
-    pub fn as_slice(&self) -> &[u8]
-        ensures { result.now ≡ self.now }
+    pub fn is_empty(&self) -> bool
+        ensures { IsTrue result ↔ (self.now ≡ []) }
     {
-        self.items.as_slice()
+        self.items.is_empty()
     }
 
     pub fn len(&self) -> usize
@@ -82,10 +80,24 @@ impl Bytes {
         self.items.len()
     }
 
-    pub fn is_empty(&self) -> bool
-        ensures { IsTrue result ↔ (self.now ≡ []) }
+    pub fn as_slice(&self) -> &[u8]
+        ensures { result.now ≡ self.now }
     {
-        self.items.is_empty()
+        self.items.as_slice()
+    }
+
+    /// Drops all bytes. Their room is kept.
+    pub fn clear(&mut self)
+        ensures { self.new ≡ [] }
+    {
+        self.items.clear();
+    }
+
+    /// Drops all bytes but the first `len`.
+    pub fn truncate(&mut self, len: usize)
+        ensures { self.new ≡ take len self.old }
+    {
+        self.items.truncate(len);
     }
 
     /// Puts one byte at the end. At an error the bytes are as before.
@@ -104,20 +116,6 @@ impl Bytes {
     {
         self.items.extend_from_slice(bytes)?;
         Ok(())
-    }
-
-    /// Drops all bytes but the first `len`.
-    pub fn truncate(&mut self, len: usize)
-        ensures { self.new ≡ take len self.old }
-    {
-        self.items.truncate(len);
-    }
-
-    /// Drops all bytes. Their room is kept.
-    pub fn clear(&mut self)
-        ensures { self.new ≡ [] }
-    {
-        self.items.clear();
     }
 
     /// Puts three pieces at the end, one after the other. At an error the bytes are as before.

@@ -106,6 +106,7 @@ impl<T> Listed<T> {
 
     /// Moves the items of another list to the end. The other is then empty and keeps its room; at an error both are as
     /// before.
+    #[inline(always)]
     pub fn append(&mut self, other: &mut Listed<T>) -> Result<(), OutOfMemory>
         ensures ok { OnOk result (self.new ≡ self.old ++ other.old) }
         ensures moved { OnOk result (other.new ≡ []) }
@@ -118,6 +119,7 @@ impl<T> Listed<T> {
 
 impl<T: Drop> Listed<T> {
     /// Puts one item at the end. At an error the item is dropped, and the list is as before.
+    #[inline(always)]
     pub fn push(&mut self, item: T) -> Result<(), OutOfMemory>
         ensures ok { OnOk result (self.new ≡ self.old ++ item ∷ []) }
         ensures err { OnErr result (self.new ≡ self.old) }

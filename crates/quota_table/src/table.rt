@@ -2,7 +2,7 @@ ghost use Rattle.std.specs.Prelude.{◌≡◌, ◌≤◌, ◌==◌, IfOk, map, I
 ghost use Rattle.std.specs.List.{list_any};
 ghost use Rattle.std.specs.Result.{result_err};
 ghost use Rattle.quota_table.specs.Rows.{IsTable};
-ghost use Rattle.quota_table.specs.Tables.{table_fault, row_fault, row_of, quotas_of, offset_of};
+ghost use Rattle.quota_table.specs.Tables.{table_fault, row_fault, asked_row, quotas_of, offset_of};
 
 use crate::errors::TableError;
 use crate::rows::{Asked, Row};
@@ -103,7 +103,7 @@ impl Table {
 /// a shard that an earlier row has, a quota that is 0 or above 64. It takes no memory.
 pub fn check(rows: &[Asked]) -> Result<Table, TableError>
     ensures fault { result_err result ≡ table_fault rows.now }
-    ensures table { IfOk result (λ table. table ≡ map row_of rows.now) }
+    ensures table { IfOk result (λ table. table ≡ map asked_row rows.now) }
     ensures valid { IfOk result IsTable }
 {
     if rows.is_empty() {
@@ -122,7 +122,7 @@ pub fn check(rows: &[Asked]) -> Result<Table, TableError>
 /// One row, judged against the rows before it.
 fn checked(earlier: &[Asked], asked: &Asked) -> Result<Row, TableError>
     ensures fault { result_err result ≡ row_fault earlier.now asked.now }
-    ensures row { IfOk result (λ row. row ≡ row_of asked.now) }
+    ensures row { IfOk result (λ row. row ≡ asked_row asked.now) }
 {
     let Asked { shard, quota } = *asked;
     if shard > 5 {

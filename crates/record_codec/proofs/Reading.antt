@@ -4,7 +4,7 @@ use Rattle.std.proofs.Common.{◌≡◌, ℕ, suc, ◌+◌, ◌-◌, ◌^◌, �
 use Rattle.std.specs.Int.{Width, w16, w32, w64, byte_len, from_be_bytes, to_be_bytes}
 use Rattle.std.proofs.lemmas.Bool.{cases_lt, ltb-false, le-ltb, lt-ltb}
 use Rattle.std.proofs.lemmas.Bool.Decides.{nat_tests}
-use Rattle.std.proofs.lemmas.List.{take_at, drop_at, drop-drop, take-append-drop, length-append, length-take, length-drop, get_or-drop, get_or-take, get_or_past, append-nil}
+use Rattle.std.proofs.lemmas.List.{take_at, drop_at, drop-drop, take-append-drop, length-append, length-take, length-drop, get_or-drop, get_or-take, get_or_past, append-nil, append_cancel_left}
 use Rattle.std.proofs.lemmas.Nat.{be_bytes_2, be_bytes_4, be_bytes_8, from_be_bytes-to_be_bytes_2, from_be_bytes-to_be_bytes_4, from_be_bytes-to_be_bytes_8}
 use Rattle.record_codec.specs.Fields.{two, four, eight}
 use Rattle.record_codec.specs.Reading.{Reader, ◌>>=◌, byte_at, number_at, two_at, four_at, eight_at, field, piece, announced, one, two_of, three_of}
@@ -79,7 +79,8 @@ pub record Reads {A E : Type 0} (short : E) (value : A) (text : List ℕ) (r : R
 
 pub record AreNumbers (spell : ℕ → List ℕ) (limit : ℕ) (read : List ℕ → ℕ → Option (ℕ × ℕ)) : Type 0 where
   pub took : (bytes : List ℕ) (at : ℕ) (x : ℕ × ℕ) → IsBytes bytes → read bytes at ≡ Some x → Took bytes at (spell x.0) x.1 × (x.0 < limit)
-  pub again : (n : ℕ) → n < limit → (bytes : List ℕ) (at : ℕ) (rest : List ℕ) → drop at bytes ≡ spell n ++ rest → read bytes at ≡ Some (n, at + length (spell n))
+  pub again : (n : ℕ) → n < limit → (bytes : List ℕ) (at : ℕ) (rest : List ℕ) → drop at bytes ≡ spell n ++ rest
+      → read bytes at ≡ Some (n, at + length (spell n))
   pub cut : (n : ℕ) (bytes : List ℕ) (at : ℕ) (more : List ℕ) → drop at bytes ++ more ≡ spell n → 0 < length more → read bytes at ≡ None
 
 record IsWide (w : Width) (limit : ℕ) : Type 0 where
@@ -112,7 +113,8 @@ wide64 = record {
   below = λ bytes fits. omega (arith, fits 0, fits 1, fits 2, fits 3, fits 4, fits 5, fits 6, fits 7);
 }
 
-number_took : (w : Width) (limit : ℕ) (wide : IsWide w limit) (bytes : List ℕ) (at : ℕ) (x : ℕ × ℕ) → IsBytes bytes → number_at w bytes at ≡ Some x → Took bytes at (to_be_bytes w x.0) x.1 × (x.0 < limit)
+number_took : (w : Width) (limit : ℕ) (wide : IsWide w limit) (bytes : List ℕ) (at : ℕ) (x : ℕ × ℕ) → IsBytes bytes → number_at w bytes at ≡ Some x
+    → Took bytes at (to_be_bytes w x.0) x.1 × (x.0 < limit)
 number_took w limit wide bytes at x fits e =
     let tail = drop at bytes in
     let g = guard_some (ltb (length bytes - at) (byte_len w)) (from_be_bytes w (take (byte_len w) (drop at bytes)), at + byte_len w) x e in
@@ -125,13 +127,15 @@ number_took w limit wide bytes at x fits e =
     let split : drop at bytes ≡ take (byte_len w) (drop at bytes) ++ drop (at + byte_len w) bytes = sym (take-append-drop (byte_len w) (drop at bytes)) ∙ ap (λ (t : List ℕ). take (byte_len w) (drop at bytes) ++ t) (drop-drop (byte_len w) at bytes) in
     (record { parts = rw (front, ← after-is) split; place = omega (arith, after-is, wide.len x.0) }, rw (← n-is) (wide.below (take (byte_len w) (drop at bytes)) front_fits))
 
-number_again : (w : Width) (limit : ℕ) (wide : IsWide w limit) (n : ℕ) → n < limit → (bytes : List ℕ) (at : ℕ) (rest : List ℕ) → drop at bytes ≡ to_be_bytes w n ++ rest → number_at w bytes at ≡ Some (n, at + length (to_be_bytes w n))
+number_again : (w : Width) (limit : ℕ) (wide : IsWide w limit) (n : ℕ) → n < limit → (bytes : List ℕ) (at : ℕ) (rest : List ℕ)
+    → drop at bytes ≡ to_be_bytes w n ++ rest → number_at w bytes at ≡ Some (n, at + length (to_be_bytes w n))
 number_again w limit wide n lt bytes at rest e =
     let len = wide.len n in
     let long : ltb (length bytes - at) (byte_len w) ≡ false = le-ltb _ _ (omega (arith, length-drop at bytes, ap length e, length-append (to_be_bytes w n) rest)) in
     rw (long, e, take_at (to_be_bytes w n) rest (byte_len w) len, wide.again n lt, len) refl
 
-number_cut : (w : Width) (limit : ℕ) (wide : IsWide w limit) (n : ℕ) (bytes : List ℕ) (at : ℕ) (more : List ℕ) → drop at bytes ++ more ≡ to_be_bytes w n → 0 < length more → number_at w bytes at ≡ None
+number_cut : (w : Width) (limit : ℕ) (wide : IsWide w limit) (n : ℕ) (bytes : List ℕ) (at : ℕ) (more : List ℕ) → drop at bytes ++ more ≡ to_be_bytes w n
+    → 0 < length more → number_at w bytes at ≡ None
 number_cut w limit wide n bytes at more e some =
     let len = wide.len n in
     let short : ltb (length bytes - at) (byte_len w) ≡ true = lt-ltb _ _ (omega (arith, length-drop at bytes, ap length e, length-append (drop at bytes) more)) in
@@ -197,14 +201,16 @@ within least most n e = grind (arith, nat_tests)
 is_within : (least most n : ℕ) → least ≤ n → n ≤ most → (nat_le least n && nat_le n most) ≡ true
 is_within least most n le ge = grind (arith, nat_tests)
 
-field_ok : {E : Type 0} (short : E) (wrong : ℕ → E) (least most : ℕ) (o : Option (ℕ × ℕ)) (x : ℕ × ℕ) → field short wrong least most o ≡ Ok x → (o ≡ Some x) × (least ≤ x.0) × (x.0 ≤ most)
+field_ok : {E : Type 0} (short : E) (wrong : ℕ → E) (least most : ℕ) (o : Option (ℕ × ℕ)) (x : ℕ × ℕ) → field short wrong least most o ≡ Ok x
+    → (o ≡ Some x) × (least ≤ x.0) × (x.0 ≤ most)
 field_ok short wrong least most None x e = absurd cc
 field_ok short wrong least most (Some n) x e =
     let g = guard_ended (nat_le least n.0 && nat_le n.0 most) (wrong n.0) n x e in
     let bounds = within least most n.0 g.0 in
     (ap (λ (y : ℕ × ℕ). Some y) g.1, subst (λ (y : ℕ × ℕ). least ≤ y.0) g.1 bounds.0, subst (λ (y : ℕ × ℕ). y.0 ≤ most) g.1 bounds.1)
 
-pub field_takes : {E : Type 0} (short : E) (wrong : ℕ → ℕ → E) (least most : ℕ) (spell : ℕ → List ℕ) (limit : ℕ) (read : List ℕ → ℕ → Option (ℕ × ℕ)) → AreNumbers spell limit read
+pub field_takes : {E : Type 0} (short : E) (wrong : ℕ → ℕ → E) (least most : ℕ) (spell : ℕ → List ℕ) (limit : ℕ) (read : List ℕ → ℕ → Option (ℕ × ℕ))
+    → AreNumbers spell limit read
     → Takes spell (λ n. (least ≤ n) × (n ≤ most)) (λ bytes at. field short (wrong at) least most (read bytes at))
 field_takes short wrong least most spell limit read numbers = record {
   took = λ bytes at x fits e.
@@ -213,7 +219,8 @@ field_takes short wrong least most spell limit read numbers = record {
       (t.0, (ok.1, ok.2));
 }
 
-pub field_reads : {E : Type 0} (short : E) (wrong : ℕ → ℕ → E) (least most : ℕ) (spell : ℕ → List ℕ) (limit : ℕ) (read : List ℕ → ℕ → Option (ℕ × ℕ)) → AreNumbers spell limit read
+pub field_reads : {E : Type 0} (short : E) (wrong : ℕ → ℕ → E) (least most : ℕ) (spell : ℕ → List ℕ) (limit : ℕ) (read : List ℕ → ℕ → Option (ℕ × ℕ))
+    → AreNumbers spell limit read
     → (n : ℕ) → least ≤ n → n ≤ most → most < limit → Reads short n (spell n) (λ bytes at. field short (wrong at) least most (read bytes at))
 field_reads short wrong least most spell limit read numbers n ge le lt = record {
   again = λ bytes at rest e. rw (numbers.again n (omega arith) bytes at rest e, is_within least most n ge le) refl;
@@ -237,7 +244,8 @@ split (c ∷ x) y (d ∷ a) b e =
 abbrev pub then_of : {A D E : Type 0} → Reader A E → (A → Reader D E) → Reader D E
 then_of r k bytes at = r bytes at >>= λ a. k a.0 bytes a.1
 
-pub then_reads : {A D E : Type 0} (short : E) (r : Reader A E) (k : A → Reader D E) (a : A) (d : D) (x y : List ℕ) → Reads short a x r → Reads short d y (k a) → Reads short d (x ++ y) (then_of r k)
+pub then_reads : {A D E : Type 0} (short : E) (r : Reader A E) (k : A → Reader D E) (a : A) (d : D) (x y : List ℕ) → Reads short a x r → Reads short d y (k a)
+    → Reads short d (x ++ y) (then_of r k)
 then_reads short r k a d x y p q = record {
   again = λ bytes at rest e.
       let e1 : drop at bytes ≡ x ++ (y ++ rest) = e ∙ append_assoc x y rest in
@@ -270,23 +278,27 @@ piece_reads short body = record {
       rw cut_off refl;
 }
 
-pub announced_reads : {E : Type 0} (short : E) (r : Reader ℕ E) (front : ℕ → List ℕ) (body : List ℕ) → Reads short (length body) (front (length body)) r → Reads short body (front (length body) ++ body) (announced short r)
+pub announced_reads : {E : Type 0} (short : E) (r : Reader ℕ E) (front : ℕ → List ℕ) (body : List ℕ) → Reads short (length body) (front (length body)) r
+    → Reads short body (front (length body) ++ body) (announced short r)
 announced_reads short r front body p = then_reads short r (piece short) (length body) body (front (length body)) body p (piece_reads short body)
 
 pub one_reads : {A D E : Type 0} (short : E) (r : Reader A E) (make : A → D) (a : A) (x : List ℕ) → Reads short a x r → Reads short (make a) x (one r make)
 one_reads short r make a x p =
     subst (λ (t : List ℕ). Reads short (make a) t (one r make)) (append-nil x) (then_reads short r (λ b. give (make b)) a (make a) x [] p (give_reads short (make a)))
 
-pub two_reads : {A B D E : Type 0} (short : E) (r : Reader A E) (s : Reader B E) (make : A → B → D) (a : A) (b : B) (x y : List ℕ) → Reads short a x r → Reads short b y s → Reads short (make a b) (x ++ y) (two_of r s make)
+pub two_reads : {A B D E : Type 0} (short : E) (r : Reader A E) (s : Reader B E) (make : A → B → D) (a : A) (b : B) (x y : List ℕ) → Reads short a x r
+    → Reads short b y s → Reads short (make a b) (x ++ y) (two_of r s make)
 two_reads short r s make a b x y p q = then_reads short r (λ c. one s (make c)) a (make a b) x y p (one_reads short s (make a) b y q)
 
-pub three_reads : {A B C D E : Type 0} (short : E) (r : Reader A E) (s : Reader B E) (t : Reader C E) (make : A → B → C → D) (a : A) (b : B) (c : C) (x y z : List ℕ) → Reads short a x r → Reads short b y s → Reads short c z t → Reads short (make a b c) (x ++ y ++ z) (three_of r s t make)
+pub three_reads : {A B C D E : Type 0} (short : E) (r : Reader A E) (s : Reader B E) (t : Reader C E) (make : A → B → C → D) (a : A) (b : B) (c : C) (x y z : List ℕ)
+    → Reads short a x r → Reads short b y s → Reads short c z t → Reads short (make a b c) (x ++ y ++ z) (three_of r s t make)
 three_reads short r s t make a b c x y z p q o =
     subst (λ (text : List ℕ). Reads short (make a b c) text (three_of r s t make)) (sym (append_assoc x y z)) (then_reads short r (λ d. two_of s t (make d)) a (make a b c) x (y ++ z) p (two_reads short s t (make a) b c y z q o))
 
 -- ---- what is read is spelled so
 
-pub announced_takes : {E : Type 0} (short : E) (r : Reader ℕ E) (front : ℕ → List ℕ) (Valid : ℕ → Type 0) → Takes front Valid r → Takes (λ body. front (length body) ++ body) (λ body. Valid (length body)) (announced short r)
+pub announced_takes : {E : Type 0} (short : E) (r : Reader ℕ E) (front : ℕ → List ℕ) (Valid : ℕ → Type 0) → Takes front Valid r
+    → Takes (λ body. front (length body) ++ body) (λ body. Valid (length body)) (announced short r)
 announced_takes {E} short r front Valid p = record {
   took = λ bytes at x fits e.
       let b = bind_ok (r bytes at) (λ len. piece short len.0 bytes len.1) x e in
@@ -305,7 +317,8 @@ announced_takes {E} short r front Valid p = record {
       subst (λ (y : List ℕ × ℕ). Took bytes at (front (length y.0) ++ y.0) y.1 × Valid (length y.0)) g.1 (whole, subst Valid (sym len) t.1);
 }
 
-pub one_takes : {A D E : Type 0} (r : Reader A E) (make : A → D) (spell : A → List ℕ) (Valid : A → Type 0) (spell_d : D → List ℕ) (Valid_d : D → Type 0) → Takes spell Valid r
+pub one_takes : {A D E : Type 0} (r : Reader A E) (make : A → D) (spell : A → List ℕ) (Valid : A → Type 0) (spell_d : D → List ℕ) (Valid_d : D → Type 0)
+    → Takes spell Valid r
     → ((a : A) → Valid a → (spell_d (make a) ≡ spell a) × Valid_d (make a)) → Takes spell_d Valid_d (one r make)
 one_takes {A} {D} {E} r make spell Valid spell_d Valid_d p made = record {
   took = λ bytes at x fits e.
@@ -316,7 +329,8 @@ one_takes {A} {D} {E} r make spell Valid spell_d Valid_d p made = record {
       subst (λ (y : D × ℕ). Took bytes at (spell_d y.0) y.1 × Valid_d y.0) (ok_is E (make a.0.0, a.0.1) x a.2) (text, m.1);
 }
 
-pub two_takes : {A B D E : Type 0} (r : Reader A E) (s : Reader B E) (make : A → B → D) (spell_a : A → List ℕ) (Valid_a : A → Type 0) (spell_b : B → List ℕ) (Valid_b : B → Type 0) (spell_d : D → List ℕ) (Valid_d : D → Type 0) → Takes spell_a Valid_a r → Takes spell_b Valid_b s
+pub two_takes : {A B D E : Type 0} (r : Reader A E) (s : Reader B E) (make : A → B → D) (spell_a : A → List ℕ) (Valid_a : A → Type 0) (spell_b : B → List ℕ) (Valid_b : B → Type 0) (spell_d : D → List ℕ) (Valid_d : D → Type 0)
+    → Takes spell_a Valid_a r → Takes spell_b Valid_b s
     → ((a : A) (b : B) → Valid_a a → Valid_b b → (spell_d (make a b) ≡ spell_a a ++ spell_b b) × Valid_d (make a b)) → Takes spell_d Valid_d (two_of r s make)
 two_takes {A} {B} {D} {E} r s make spell_a Valid_a spell_b Valid_b spell_d Valid_d p q made = record {
   took = λ bytes at x fits e.
@@ -329,7 +343,8 @@ two_takes {A} {B} {D} {E} r s make spell_a Valid_a spell_b Valid_b spell_d Valid
       subst (λ (y : D × ℕ). Took bytes at (spell_d y.0) y.1 × Valid_d y.0) (ok_is E (make a.0.0 b.0.0, b.0.1) x b.2) (text, m.1);
 }
 
-pub three_takes : {A B C D E : Type 0} (r : Reader A E) (s : Reader B E) (t : Reader C E) (make : A → B → C → D) (spell_a : A → List ℕ) (Valid_a : A → Type 0) (spell_b : B → List ℕ) (Valid_b : B → Type 0) (spell_c : C → List ℕ) (Valid_c : C → Type 0) (spell_d : D → List ℕ) (Valid_d : D → Type 0) → Takes spell_a Valid_a r → Takes spell_b Valid_b s → Takes spell_c Valid_c t
+pub three_takes : {A B C D E : Type 0} (r : Reader A E) (s : Reader B E) (t : Reader C E) (make : A → B → C → D) (spell_a : A → List ℕ) (Valid_a : A → Type 0) (spell_b : B → List ℕ) (Valid_b : B → Type 0) (spell_c : C → List ℕ) (Valid_c : C → Type 0) (spell_d : D → List ℕ) (Valid_d : D → Type 0)
+    → Takes spell_a Valid_a r → Takes spell_b Valid_b s → Takes spell_c Valid_c t
     → ((a : A) (b : B) (c : C) → Valid_a a → Valid_b b → Valid_c c → (spell_d (make a b c) ≡ spell_a a ++ spell_b b ++ spell_c c) × Valid_d (make a b c)) → Takes spell_d Valid_d (three_of r s t make)
 three_takes {A} {B} {C} {D} {E} r s t make spell_a Valid_a spell_b Valid_b spell_c Valid_c spell_d Valid_d p q o made = record {
   took = λ bytes at x fits e.
@@ -350,7 +365,16 @@ three_takes {A} {B} {C} {D} {E} r s t make spell_a Valid_a spell_b Valid_b spell
 pairs_same : {A : Type 0} (E : Type 0) (p q : A × ℕ) → done E p ≡ done E q → (p.0 ≡ q.0) × (p.1 ≡ q.1)
 pairs_same {A} E p q e = let same = ok_is E p q e in (ap (λ (z : A × ℕ). z.0) same, ap (λ (z : A × ℕ). z.1) same)
 
-pub one_value : {A E : Type 0} (short : E) (r : Reader A E) (a b : A) (x y u v : List ℕ) → Reads short a x r → Reads short b y r → x ++ u ≡ y ++ v → (a ≡ b) × (length x ≡ length y)
+pub one_value : {A E : Type 0} (short : E) (r : Reader A E) (a b : A) (x y u v : List ℕ) → Reads short a x r → Reads short b y r → x ++ u ≡ y ++ v
+    → (a ≡ b) × (length x ≡ length y)
 one_value {A} {E} short r a b x y u v p q e =
     let same = pairs_same E (a, 0 + length x) (b, 0 + length y) (sym (p.again (x ++ u) 0 u refl) ∙ q.again (x ++ u) 0 v e) in
     (same.0, omega (arith, same.1))
+
+-- a spelling behind which anything may stand: of two in the same text both values and both rests are the same
+pub apart : {A E : Type 0} (short : E) (r : Reader A E) (spell : A → List ℕ) (a b : A) (x y : List ℕ) → Reads short a (spell a) r → Reads short b (spell b) r
+    → spell a ++ x ≡ spell b ++ y → (a ≡ b) × (x ≡ y)
+apart {A} short r spell a b x y p q e =
+    let same = one_value short r a b (spell a) (spell b) x y p q e in
+    let e1 : spell b ++ x ≡ spell b ++ y = ap (λ (v : A). spell v ++ x) (sym same.0) ∙ e in
+    (same.0, append_cancel_left (spell b) x y e1)

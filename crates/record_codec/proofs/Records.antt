@@ -2,7 +2,7 @@
 use Rattle.std.proofs.Common.{◌≡◌, ℕ, ◌^◌, ◌<◌, ◌≤◌, cond, eqb, List, [], ◌∷◌, ◌++◌, length, take, drop, Result, Ok, Err, refl, sym, ap, subst, ◌∙◌, arith, inl, inr}
 use Rattle.std.proofs.lemmas.Bool.{eqb-true, eqb-false}
 use Rattle.std.specs.Prelude.{IfOk}
-use Rattle.std.proofs.lemmas.List.{take_at, append_cancel_left}
+use Rattle.std.proofs.lemmas.List.{take_at}
 use Rattle.record_codec.specs.declared.record.Record.{Record}
 use Rattle.record_codec.specs.declared.record.Record.TheVariants.{Data, Noop}
 use Rattle.record_codec.specs.declared.errors.DecodeError.{DecodeError}
@@ -11,7 +11,7 @@ use Rattle.record_codec.specs.Fields.{two, four, eight, sized}
 use Rattle.record_codec.specs.Records.{IsValidRecord, record_spelling}
 use Rattle.record_codec.specs.Reading.{Reader, byte_at, two_at, four_at, eight_at, field, three_of}
 use Rattle.record_codec.specs.Decoding.{Gives, client_at, count_at, len_at, body_at, record_at}
-use Rattle.record_codec.proofs.Reading.{IsBytes, bind_ok, ok_is, Took, Took-then, chosen, one_value, Takes, Reads, single, twos, fours, eights, bytes_are_numbers, field_takes, field_reads, then_reads, give_reads, announced_takes, announced_reads, three_takes, three_reads}
+use Rattle.record_codec.proofs.Reading.{IsBytes, bind_ok, ok_is, Took, Took-then, chosen, apart, Takes, Reads, single, twos, fours, eights, bytes_are_numbers, field_takes, field_reads, then_reads, give_reads, announced_takes, announced_reads, three_takes, three_reads}
 
 client_takes : Takes four (λ n. (0 ≤ n) × (n ≤ 5)) client_at
 unfolding client_at
@@ -93,13 +93,15 @@ record_reads (Data client number body) valid =
 
 -- ---- for decode
 
-pub record_found : (bytes : List ℕ) (result : Result (Record × ℕ) DecodeError) → IsBytes bytes → Gives result (record_at bytes 0) → IfOk result (λ r. IsValidRecord r.0 × (take r.1 bytes ≡ record_spelling r.0))
+pub record_found : (bytes : List ℕ) (result : Result (Record × ℕ) DecodeError) → IsBytes bytes → Gives result (record_at bytes 0)
+    → IfOk result (λ r. IsValidRecord r.0 × (take r.1 bytes ≡ record_spelling r.0))
 record_found bytes (Ok x) fits e =
     let t = record_takes.took bytes 0 x fits e in
     (t.1, ap (take x.1) t.0.parts ∙ take_at (record_spelling x.0) (drop x.1 bytes) x.1 (omega (arith, t.0.place)))
 record_found bytes (Err e) fits h = tt
 
-pub record_only : (bytes : List ℕ) (result : Result (Record × ℕ) DecodeError) → Gives result (record_at bytes 0) → (r : Record) (rest : List ℕ) → IsValidRecord r → bytes ≡ record_spelling r ++ rest → Gives result (Ok (r, length (record_spelling r)))
+pub record_only : (bytes : List ℕ) (result : Result (Record × ℕ) DecodeError) → Gives result (record_at bytes 0) → (r : Record) (rest : List ℕ)
+    → IsValidRecord r → bytes ≡ record_spelling r ++ rest → Gives result (Ok (r, length (record_spelling r)))
 record_only bytes result given r rest valid e =
     let read : record_at bytes 0 ≡ Ok (r, length (record_spelling r)) = (record_reads r valid).again bytes 0 rest e ∙ ap (λ (n : ℕ). Ok (r, n)) (omega arith) in
     subst (Gives result) read given
@@ -107,10 +109,7 @@ record_only bytes result given r rest valid e =
 -- ---- for the laws
 
 pub records_apart : (a b : Record) (x y : List ℕ) → IsValidRecord a → IsValidRecord b → record_spelling a ++ x ≡ record_spelling b ++ y → (a ≡ b) × (x ≡ y)
-records_apart a b x y va vb e =
-    let same = one_value Short record_at a b (record_spelling a) (record_spelling b) x y (record_reads a va) (record_reads b vb) e in
-    let e1 : record_spelling b ++ x ≡ record_spelling b ++ y = ap (λ (r : Record). record_spelling r ++ x) (sym same.0) ∙ e in
-    (same.0, append_cancel_left (record_spelling b) x y e1)
+records_apart a b x y va vb e = apart Short record_at record_spelling a b x y (record_reads a va) (record_reads b vb) e
 
 pub record_cut : (r : Record) (front more : List ℕ) → IsValidRecord r → front ++ more ≡ record_spelling r → 0 < length more → record_at front 0 ≡ Err Short
 record_cut r front more valid e some = (record_reads r valid).cut front 0 more e some

@@ -1,9 +1,9 @@
 -- The bytes that a body has, wherever they are kept. No public clause cites this.
 use Rattle.std.specs.Prelude.{ℕ, ◌≤◌, ◌<◌, List, length, take}
 use Rattle.std.specs.Arc.{arc_slice_items}
-use Rattle.record_codec.specs.declared.shared.Kept.{Kept}
-use Rattle.record_codec.specs.declared.shared.Kept.TheVariants.{Here, Shared}
-use Rattle.record_codec.specs.declared.shared.TheConstants.{IN_PLACE}
+use Rattle.record_codec.specs.declared.body.Kept.{Kept}
+use Rattle.record_codec.specs.declared.body.Kept.TheVariants.{Here, Shared}
+use Rattle.record_codec.specs.declared.body.TheConstants.{IN_PLACE}
 
 abbrev pub kept_bytes : Kept → List ℕ
 kept_bytes (Here len places) = take len places

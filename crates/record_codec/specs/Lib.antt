@@ -1,4 +1,5 @@
 pub mod Kept
+pub mod Decimals
 pub mod Fields
 pub mod Records
 pub mod Entries

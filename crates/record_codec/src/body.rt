@@ -1,31 +1,49 @@
-ghost use Rattle.std.specs.Prelude.{◌≡◌, ◌<◌, ◌≤◌, ◌↔◌, ◌⊎◌, length, IfErr, IfOk, IsErrOf};
-ghost use Rattle.record_codec.specs.declared.body.TheConstants.{MOST_BODY};
-ghost use Rattle.record_codec.specs.declared.shared.TheConstants.{IN_PLACE};
+ghost use Rattle.std.specs.Prelude.{◌≡◌, ◌<◌, ◌≤◌, ◌↔◌, ◌⊎◌, length, take, nat_eq, IfErr, IfOk, IsErrOf};
+ghost use Rattle.std.specs.Cmp.Lexicographic.{pointwise};
+ghost use Rattle.std.proofs.Common.{rules};
+ghost use Rattle.record_codec.specs.declared.body.TheConstants.{IN_PLACE, MOST_BODY};
 
 use crate::errors::BodyError;
-use crate::shared::SharedBytes;
 use quota_table::OutOfMemory;
 use std::alloc::{AllocError, Global};
+use std::fmt;
+use std::fmt::{Debug, Formatter, Write};
 use std::marker::Model;
+use std::sync::ArcSlice;
 
 /// The greatest length of a body, in bytes.
 pub const MOST_BODY: usize = 1024;
 
+/// How many bytes stand in a value itself.
+pub const IN_PLACE: usize = 14;
+
+/// Where the bytes of a body are.
+#[derive(Drop)]
+pub(crate) enum Kept {
+    /// The first `len` of these places.
+    Here { len: u8, places: [u8; IN_PLACE] },
+    /// Behind a count of the bodies that have them.
+    Shared(ArcSlice<u8>),
+}
+
 /// What a client submits: at most 1,024 bytes. Contracts see it as that list. A clone takes no memory: up to [`IN_PLACE`]
 /// bytes stand in the value itself, and longer bodies share theirs.
-#[derive(Debug, Drop)]
+#[derive(Drop)]
 pub struct Body {
-    bytes: SharedBytes,
+    kept: Kept,
 }
 
 impl Model for Body {
-    ghost use Rattle.std.specs.Prelude.{ℕ, List, length, ◌≤◌};
+    ghost use Rattle.std.specs.Prelude.{ℕ, List};
 
     ghost Value = { List ℕ };
 
-    ghost view = { λ b. b.bytes };
+    ghost use Rattle.std.specs.Prelude.{length, ◌≤◌};
+    ghost use Rattle.record_codec.specs.Kept.{kept_bytes, IsKept};
 
-    ghost invariant = { λ b. length b.bytes ≤ 1024 };
+    ghost view = { λ b. kept_bytes b.kept };
+
+    ghost invariant = { λ b. IsKept b.kept × (length (kept_bytes b.kept) ≤ 1024) };
 }
 
 impl Clone for Body {
@@ -34,23 +52,30 @@ impl Clone for Body {
     ghost is_infallible = { λ a. length a ≤ IN_PLACE };
 
     fn clone(&self) -> Result<Body, AllocError> {
-        Ok(Body {
-            bytes: self.bytes.clone()?,
-        })
+        let kept = match &self.kept {
+            Kept::Here { len, places } => Kept::Here {
+                len: *len,
+                places: *places,
+            },
+            Kept::Shared(bytes) => Kept::Shared(bytes.clone()?),
+        };
+        Ok(Body { kept })
     }
 }
 
 impl PartialEq for Body {
-    ghost use Rattle.std.specs.Prelude.{nat_eq};
-    ghost use Rattle.std.specs.Cmp.Lexicographic.{pointwise};
-    ghost use Rattle.std.proofs.Common.{rules};
-
     ghost eq = { pointwise nat_eq };
 
     ghost laws = { Prim.search rules };
 
     fn eq(&self, other: &Body) -> bool {
-        self.bytes == other.bytes
+        self.as_slice() == other.as_slice()
+    }
+}
+
+impl Debug for Body {
+    fn fmt<W: Write>(&self, f: &mut Formatter<W>) -> fmt::Result {
+        f.debug_list().slice(self.as_slice()).finish()
     }
 }
 
@@ -65,30 +90,50 @@ impl Body {
         if bytes.len() > MOST_BODY {
             return Err(BodyError::TooLong { len: bytes.len() });
         }
-        Ok(Body::of(alloc, bytes)?)
+        Body::of(alloc, bytes).map_err(|_| BodyError::OutOfMemory)
     }
 
-    /// The body of at most 1,024 bytes.
+    /// The body of at most 1,024 bytes. It takes memory only where they are more than stand in a value.
     pub fn of(alloc: Global, bytes: &[u8]) -> Result<Body, OutOfMemory>
         requires { length bytes.now ≤ 1024 }
         ensures { IfOk result (λ body. body ≡ bytes.now) }
     {
+        if bytes.len() <= IN_PLACE {
+            return Ok(Body::here(bytes));
+        }
         Ok(Body {
-            bytes: SharedBytes::from_slice(alloc, bytes)?,
+            kept: Kept::Shared(ArcSlice::from_slice(alloc, bytes)?),
         })
+    }
+
+    fn here(bytes: &[u8]) -> Body
+        requires { length bytes.now ≤ IN_PLACE }
+        ensures { result ≡ bytes.now }
+    {
+        let mut places = [0; IN_PLACE];
+        places[..bytes.len()].copy_from_slice(bytes);
+        Body {
+            kept: Kept::Here {
+                len: bytes.len() as u8,
+                places,
+            },
+        }
     }
 
     pub fn as_slice(&self) -> &[u8]
         ensures bytes { result.now ≡ self.now }
         ensures within { length self.now ≤ MOST_BODY }
     {
-        self.bytes.as_slice()
+        match &self.kept {
+            Kept::Here { len, places } => &places[..usize::from(*len)],
+            Kept::Shared(bytes) => bytes.as_slice(),
+        }
     }
 
     pub fn len(&self) -> usize
         ensures len { result ≡ length self.now }
         ensures within { length self.now ≤ MOST_BODY }
     {
-        self.bytes.len()
+        self.as_slice().len()
     }
 }

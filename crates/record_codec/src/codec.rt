@@ -7,7 +7,7 @@ ghost use Rattle.record_codec.specs.Decoding.{Gives, client_at, count_at, body_a
 use crate::body::{Body, MOST_BODY};
 use crate::errors::DecodeError;
 use crate::fields::{
-    Head, byte_at, eight_at, four_at, put_byte, put_eight, put_four, put_two, two_at,
+    Head, byte_at, eight_at, four_at, piece_at, put_byte, put_eight, put_four, put_two, two_at,
 };
 use crate::record::Record;
 use quota_table::{Bytes, OutOfMemory};
@@ -85,14 +85,7 @@ fn data_at(alloc: Global, bytes: &[u8], at: usize) -> Result<(Record, usize), De
     let (client, at) = client_at(bytes, at)?;
     let (number, at) = count_at(bytes, at)?;
     let (body, at) = body_at(alloc, bytes, at)?;
-    Ok((
-        Record::Data {
-            client,
-            number,
-            body,
-        },
-        at,
-    ))
+    Ok((Record::data(client, number, body), at))
 }
 
 #[tactic(auto, unfolding(crate::specs::Decoding::client_at))]
@@ -125,10 +118,7 @@ fn body_at(alloc: Global, bytes: &[u8], at: usize) -> Result<(Body, usize), Deco
     if usize::from(len) > MOST_BODY {
         return Err(DecodeError::BodyTooLong { len });
     }
-    let len = usize::from(len);
-    if bytes.len().saturating_sub(at) < len {
-        return Err(DecodeError::Short);
-    }
-    let (body, _) = bytes[at..].split_at(len);
-    Ok((Body::of(alloc, body)?, at + len))
+    let (body, at) = piece_at(bytes, at, usize::from(len)).ok_or(DecodeError::Short)?;
+    let body = Body::of(alloc, body).map_err(|_| DecodeError::OutOfMemory)?;
+    Ok((body, at))
 }

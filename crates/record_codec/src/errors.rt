@@ -1,4 +1,3 @@
-use quota_table::OutOfMemory;
 use thiserror::Error;
 
 /// Why bytes are no body.
@@ -9,17 +8,6 @@ pub enum BodyError {
     TooLong { len: usize },
     #[error("out of memory")]
     OutOfMemory,
-}
-
-impl From<OutOfMemory> for BodyError {
-    ghost use Rattle.std.specs.Prelude.{◌≡◌};
-    ghost use Rattle.record_codec.specs.declared.errors.BodyError.TheVariants.{OutOfMemory as body_out_of_memory};
-
-    ghost from_gives = { λ _ e. e ≡ body_out_of_memory };
-
-    fn from(_: OutOfMemory) -> BodyError {
-        BodyError::OutOfMemory
-    }
 }
 
 /// Why no record stands at the front of bytes: the first fault from the left.
@@ -39,15 +27,4 @@ pub enum DecodeError {
     BodyTooLong { len: u16 },
     #[error("out of memory")]
     OutOfMemory,
-}
-
-impl From<OutOfMemory> for DecodeError {
-    ghost use Rattle.std.specs.Prelude.{◌≡◌};
-    ghost use Rattle.record_codec.specs.declared.errors.DecodeError.TheVariants.{OutOfMemory as decode_out_of_memory};
-
-    ghost from_gives = { λ _ e. e ≡ decode_out_of_memory };
-
-    fn from(_: OutOfMemory) -> DecodeError {
-        DecodeError::OutOfMemory
-    }
 }

@@ -1,6 +1,6 @@
 //! Numbers as bytes, the high ones first: read at a place, and put at the end of a head.
 
-ghost use Rattle.std.specs.Prelude.{◌≡◌, ◌≤◌, ◌+◌, ◌++◌, ◌∷◌, [], length, IfSome};
+ghost use Rattle.std.specs.Prelude.{◌≡◌, ◌≤◌, ◌+◌, ◌-◌, ◌++◌, ◌∷◌, [], length, take, drop, nat_lt, true, false, IfSome, MatchOption};
 ghost use Rattle.record_codec.specs.Fields.{two, four, eight};
 ghost use Rattle.record_codec.specs.Reading.{byte_at, two_at, four_at, eight_at};
 
@@ -62,6 +62,21 @@ pub fn eight_at(bytes: &[u8], at: usize) -> Option<(u64, usize)>
         field[0], field[1], field[2], field[3], field[4], field[5], field[6], field[7],
     ]);
     Some((number, at + 8))
+}
+
+/// So many bytes at a place, and the place after them. None where the bytes end before that.
+pub fn piece_at(bytes: &[u8], at: usize, len: usize) -> Option<(&[u8], usize)>
+    requires { at ≤ length bytes.now }
+    ensures there { MatchOption result (nat_lt (length bytes.now - at) len ≡ true) (λ _. nat_lt (length bytes.now - at) len ≡ false) }
+    ensures piece { IfSome result (λ x. x.0.now ≡ take len (drop at bytes.now)) }
+    ensures after { IfSome result (λ x. x.1 ≡ at + len) }
+    ensures within { IfSome result (λ x. x.1 ≤ length bytes.now) }
+{
+    if bytes.len() - at < len {
+        return None;
+    }
+    let (piece, _) = bytes[at..].split_at(len);
+    Some((piece, at + len))
 }
 
 /// Puts a byte at the end of a head.

@@ -8,19 +8,18 @@
 mod app_kind;
 mod body;
 mod codec;
+pub mod decimal;
 mod errors;
 pub mod fields;
 pub mod laws;
 mod record;
-mod shared;
 mod text;
 
 pub use app_kind::AppKind;
-pub use body::{Body, MOST_BODY};
+pub use body::{Body, IN_PLACE, MOST_BODY};
 pub use codec::{MOST_NUMBER, decode, encode, put_record};
 pub use errors::{BodyError, DecodeError};
 pub use record::{Log, Record};
-pub use shared::IN_PLACE;
 pub use text::{MOST_OUTPUT, MOST_SHOWN, Output, ShortText, Shown};
 
 #[cfg(test)]

@@ -1,3 +1,5 @@
+ghost use Rattle.std.specs.Prelude.{◌≡◌};
+
 use crate::body::Body;
 use quota_table::Listed;
 
@@ -14,6 +16,19 @@ pub enum Record {
     },
     /// Fills a place that no client's record took in time.
     Noop,
+}
+
+impl Record {
+    /// The record of a client's body and number.
+    pub fn data(client: u32, number: u64, body: Body) -> Record
+        ensures { result ≡ Record.Data client number body }
+    {
+        Record::Data {
+            client,
+            number,
+            body,
+        }
+    }
 }
 
 /// A list of records.

@@ -1,24 +1,28 @@
+ghost use Rattle.std.specs.Prelude.{IfSome};
+ghost use Rattle.record_codec.specs.Records.{IsValidRecord};
+
 use super::*;
 use quota_table::Bytes;
+use std::alloc::Global;
 use std::mem::size_of;
 use std::test::*;
 
 /// Client 0, number 0, the body `5`.
 const FIVE: [u8; 16] = [1, 0, 0, 0, 0, 0, 0, 0, 0, 0, 0, 0, 0, 0, 1, 0x35];
 
+fn five(alloc: Global) -> Option<Record>
+    ensures { IfSome result IsValidRecord }
+{
+    let body = Body::new(alloc, b"5").ok()?;
+    Some(Record::data(0, 0, body))
+}
+
 #[test]
 fn records_are_spelled(rt: HostRuntime) -> Result<(), Fail> {
     let mut bytes = Bytes::new(rt.alloc());
     assert!(rt; encode(&Record::Noop, &mut bytes).is_ok());
     assert_eq!(rt; bytes.as_slice(), [0].as_slice());
-    let body = Body::new(rt.alloc(), b"5")
-        .ok()
-        .ok_or("a body of one byte")?;
-    let five = Record::Data {
-        client: 0,
-        number: 0,
-        body,
-    };
+    let five = five(rt.alloc()).ok_or("a body of one byte")?;
     assert!(rt; encode(&five, &mut bytes).is_ok());
     assert_eq!(rt; &bytes.as_slice()[1..], FIVE.as_slice());
     Ok(())
@@ -27,14 +31,7 @@ fn records_are_spelled(rt: HostRuntime) -> Result<(), Fail> {
 #[test]
 fn records_are_read(rt: HostRuntime) -> Result<(), Fail> {
     let (rec, len) = decode(rt.alloc(), &FIVE).ok().ok_or("a record")?;
-    let body = Body::new(rt.alloc(), b"5")
-        .ok()
-        .ok_or("a body of one byte")?;
-    let five = Record::Data {
-        client: 0,
-        number: 0,
-        body,
-    };
+    let five = five(rt.alloc()).ok_or("a body of one byte")?;
     assert_eq!(rt; rec, five);
     assert_eq!(rt; len, 16);
     let (rec, len) = decode(rt.alloc(), &[0, 7])

@@ -1,4 +1,6 @@
-ghost use Rattle.std.specs.Prelude.{◌≡◌, ◌≤◌, ◌+◌, ◌++◌, [], length};
+ghost use Rattle.std.specs.Prelude.{◌≡◌, ◌≤◌, ◌+◌, ◌++◌, [], length, nat_eq};
+ghost use Rattle.std.specs.Cmp.Lexicographic.{pointwise};
+ghost use Rattle.std.proofs.Common.{rules};
 
 use arrayvec::ArrayVec;
 use std::alloc::AllocError;
@@ -39,16 +41,12 @@ impl<const N: usize> Clone for ShortText<N> {
 }
 
 impl<const N: usize> PartialEq for ShortText<N> {
-    ghost use Rattle.std.specs.Prelude.{nat_eq};
-    ghost use Rattle.std.specs.Cmp.Lexicographic.{pointwise};
-    ghost use Rattle.std.proofs.Common.{rules};
-
     ghost eq = { pointwise nat_eq };
 
     ghost laws = { Prim.search rules };
 
     fn eq(&self, other: &Self) -> bool {
-        self.bytes == other.bytes
+        self.as_slice() == other.as_slice()
     }
 }
 

@@ -17,7 +17,8 @@ StandFrom-log_after client first (append_from owner begin number body) log prima
 StandFrom-log_after client first append_noop log primary run begins = StandFrom-other client first log Noop refl run
 StandFrom-log_after client first (append_at local rec) log primary run begins = absurd primary
 
-StandFrom-log_after_all : (client first : ℕ) (calls : List Call) (log : List Record) → AllByRecursion IsPrimaryCall calls → AllByRecursion (BeginsWith client first) calls
+StandFrom-log_after_all : (client first : ℕ) (calls : List Call) (log : List Record) → AllByRecursion IsPrimaryCall calls
+    → AllByRecursion (BeginsWith client first) calls
     → StandFrom client first log → StandFrom client first (log_after_all calls log)
 StandFrom-log_after_all client first [] log primary begins run = run
 StandFrom-log_after_all client first (call ∷ later) log primary begins run =
@@ -52,7 +53,8 @@ Stand-log_after client call log primary run = elim (cases_nil (numbers_of client
   | inr some ↦ (run.0, StandFrom-log_after client run.0 call log primary run.1 (λ none. absurd (some none)))
 ]
 
-Stand-log_after_all : (client : ℕ) (calls : List Call) (log : List Record) → AllByRecursion IsPrimaryCall calls → Stand client log → Stand client (log_after_all calls log)
+Stand-log_after_all : (client : ℕ) (calls : List Call) (log : List Record) → AllByRecursion IsPrimaryCall calls → Stand client log
+    → Stand client (log_after_all calls log)
 Stand-log_after_all client [] log primary run = run
 Stand-log_after_all client (call ∷ later) log primary run =
     Stand-log_after_all client later (log_after call log) primary.1 (Stand-log_after client call log primary.0 run)
@@ -106,7 +108,8 @@ IsFront-log_after log front (append_at local rec) copies is =
     cond_both (local == length front) (front ++ rec ∷ []) front (λ xs. IsFront xs log)
     (λ here. IsFront-push log front rec is (ap (slice_get log) (sym (eqb-true local (length front) here)) ∙ copies)) (λ _. is)
 
-IsFront-log_after_all : (log : List Record) (calls : List Call) (front : List Record) → AllByRecursion (CopiesFrom log) calls → IsFront front log → IsFront (log_after_all calls front) log
+IsFront-log_after_all : (log : List Record) (calls : List Call) (front : List Record) → AllByRecursion (CopiesFrom log) calls → IsFront front log
+    → IsFront (log_after_all calls front) log
 IsFront-log_after_all log [] front copies is = is
 IsFront-log_after_all log (call ∷ later) front copies is =
     IsFront-log_after_all log later (log_after call front) copies.1 (IsFront-log_after log front call copies.0 is)

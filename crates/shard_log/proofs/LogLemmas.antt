@@ -10,7 +10,7 @@ use Rattle.shard_log.specs.declared.index.Place.{Place}
 use Rattle.record_codec.specs.Records.{IsValidRecord}
 use Rattle.shard_log.specs.Records.{number_by}
 use Rattle.shard_log.specs.Places.{place_by, places_from, places_of, last_below, first_with}
-use Rattle.shard_log.specs.Indexed.{IsIndexed}
+use Rattle.shard_log.specs.Insides.{IsIndexed}
 use Rattle.shard_log.proofs.PlaceLemmas.{option_or-none, cons_option-nil}
 use Rattle.shard_log.specs.ShardLog.{last_of, local_of}
 
@@ -24,7 +24,8 @@ map-zero None = refl
 map-zero (Some local) = ap Some (zero-add local)
 
 -- the first place with a number is that of the least local with it
-first_with-places_from : (client number at : ℕ) (log : List Record) → first_with number (places_from client at log) ≡ option_map (λ local. at + local) (local_of client number log)
+first_with-places_from : (client number at : ℕ) (log : List Record)
+    → first_with number (places_from client at log) ≡ option_map (λ local. at + local) (local_of client number log)
 first_with-places_from client number at [] = refl
 first_with-places_from client number at (Noop ∷ rest) =
     first_with-places_from client number (at + 1) rest ∙ map-next at (local_of client number rest)
@@ -54,11 +55,13 @@ take-nil (suc n) = refl
 abbrev number_until : ℕ → ℕ → Option ℕ → Option ℕ
 number_until end at number = if nat_lt at end then number else None
 
-last_below-cons : (end at : ℕ) (number : Option ℕ) (ps : List Place) → last_below end (cons_option (option_map (λ n. record { local = at; number = n }) number) ps) ≡ option_or (last_below end ps) (number_until end at number)
+last_below-cons : (end at : ℕ) (number : Option ℕ) (ps : List Place)
+    → last_below end (cons_option (option_map (λ n. record { local = at; number = n }) number) ps) ≡ option_or (last_below end ps) (number_until end at number)
 last_below-cons end at None ps = cond_both (nat_lt at end) None None (λ o. last_below end ps ≡ option_or (last_below end ps) o) (λ _. sym (option_or-none _)) (λ _. sym (option_or-none _))
 last_below-cons end at (Some n) ps = refl
 
-last_of-take : (client end at : ℕ) (r : Record) (rest : List Record) → last_of client (take (end - at) (r ∷ rest)) ≡ option_or (last_of client (take (end - (at + 1)) rest)) (number_until end at (number_by client r))
+last_of-take : (client end at : ℕ) (r : Record) (rest : List Record)
+    → last_of client (take (end - at) (r ∷ rest)) ≡ option_or (last_of client (take (end - (at + 1)) rest)) (number_until end at (number_by client r))
 last_of-take client end at r rest = elim (cases_lt at end) [
   | inl below ↦
       let more : end - at ≡ suc (end - (at + 1)) = omega arith in
@@ -102,7 +105,8 @@ cons_option-append None xs ys = refl
 cons_option-append (Some x) xs ys = refl
 
 -- the places of a log with one more record: those of the log, and the record's
-places_from-push : (client at : ℕ) (log : List Record) (rec : Record) → places_from client at (log ++ rec ∷ []) ≡ places_from client at log ++ option_to_list (place_by client (at + length log) rec)
+places_from-push : (client at : ℕ) (log : List Record) (rec : Record)
+    → places_from client at (log ++ rec ∷ []) ≡ places_from client at log ++ option_to_list (place_by client (at + length log) rec)
 places_from-push client at [] rec = rw (add-zero at) (cons_option-nil (place_by client at rec))
 places_from-push client at (r ∷ rest) rec =
     let local : at + 1 + length rest ≡ at + suc (length rest) = omega arith in
@@ -116,7 +120,8 @@ below-cons at bound None ps here later = later
 below-cons at bound (Some n) ps here later = (here, later)
 
 -- the places of a log's records are below its length
-places_from-below : (client at bound : ℕ) (log : List Record) → at + length log ≤ bound → AllByRecursion (λ (p : Place). p.local ≤ bound) (places_from client at log)
+places_from-below : (client at bound : ℕ) (log : List Record) → at + length log ≤ bound
+    → AllByRecursion (λ (p : Place). p.local ≤ bound) (places_from client at log)
 places_from-below client at bound [] h = tt
 places_from-below client at bound (r ∷ rest) h =
     below-cons at bound (number_by client r) (places_from client (at + 1) rest) (omega arith) (places_from-below client (at + 1) bound rest (omega arith))

@@ -35,13 +35,15 @@ last_in-numbers_from first zero = ap Some (sym (add-zero first))
 last_in-numbers_from first (suc n) =
     ap (λ o. option_or o (Some first)) (last_in-numbers_from (first + 1) n) ∙ (let sum : first + 1 + n ≡ first + suc n = omega arith in ap Some sum)
 
-expected-run : (first begin n : ℕ) (xs : List ℕ) → xs ≡ numbers_from first n → (xs ≡ [] → begin ≡ first) → unwrap_or (option_map (λ n. n + 1) (last_in xs)) begin ≡ first + n
+expected-run : (first begin n : ℕ) (xs : List ℕ) → xs ≡ numbers_from first n → (xs ≡ [] → begin ≡ first)
+    → unwrap_or (option_map (λ n. n + 1) (last_in xs)) begin ≡ first + n
 expected-run first begin zero xs run empty = rw run (empty run ∙ sym (add-zero first))
 expected-run first begin (suc n) xs run empty =
     rw run (ap (λ o. unwrap_or (option_map (λ n. n + 1) o) begin) (last_in-numbers_from first n) ∙ (let sum : first + n + 1 ≡ first + suc n = omega arith in sum))
 
 -- the number that a log expects of a client follows those that it has
-expected_of-run : (client first begin : ℕ) (log : List Record) → StandFrom client first log → (numbers_of client log ≡ [] → begin ≡ first) → expected_of client begin log ≡ first + length (numbers_of client log)
+expected_of-run : (client first begin : ℕ) (log : List Record) → StandFrom client first log → (numbers_of client log ≡ [] → begin ≡ first)
+    → expected_of client begin log ≡ first + length (numbers_of client log)
 expected_of-run client first begin log run empty =
     ap (λ o. unwrap_or (option_map (λ n. n + 1) o) begin) (last_of-numbers client log) ∙ expected-run first begin (length (numbers_of client log)) (numbers_of client log) run empty
 
@@ -52,7 +54,8 @@ numbers_from-push first (suc n) =
     ap (λ x. first ∷ (numbers_from (first + 1) n ++ x ∷ [])) sum ∙ ap (λ xs. first ∷ xs) (numbers_from-push (first + 1) n)
 
 -- numbers that run on, with the next one at their end, run on
-run_push : (first : ℕ) (xs : List ℕ) (x : ℕ) → xs ≡ numbers_from first (length xs) → x ≡ first + length xs → xs ++ x ∷ [] ≡ numbers_from first (length (xs ++ x ∷ []))
+run_push : (first : ℕ) (xs : List ℕ) (x : ℕ) → xs ≡ numbers_from first (length xs) → x ≡ first + length xs
+    → xs ++ x ∷ [] ≡ numbers_from first (length (xs ++ x ∷ []))
 run_push first xs x run next =
     let len : length (xs ++ x ∷ []) ≡ suc (length xs) = omega (arith, length_push xs x) in
     ap (λ ys. ys ++ x ∷ []) run ∙ ap (λ y. numbers_from first (length xs) ++ y ∷ []) next ∙ numbers_from-push first (length xs) ∙ ap (numbers_from first) (sym len)
@@ -79,12 +82,14 @@ IsConsecutive-from_run first (x ∷ xs) run =
     let tail : xs ≡ numbers_from (first + 1) (length xs) = cc in
     tail ∙ ap (λ y. numbers_from (y + 1) (length xs)) (sym head)
 
-numbers_of-push : (client : ℕ) (log : List Record) (rec : Record) → numbers_of client (log ++ rec ∷ []) ≡ numbers_of client log ++ option_to_list (number_by client rec)
+numbers_of-push : (client : ℕ) (log : List Record) (rec : Record)
+    → numbers_of client (log ++ rec ∷ []) ≡ numbers_of client log ++ option_to_list (number_by client rec)
 numbers_of-push client log rec =
     filter_map-append (number_by client) log (rec ∷ []) ∙ ap (λ xs. numbers_of client log ++ xs) (cons_option-nil (number_by client rec))
 
 -- a record without a number of the client leaves its numbers
-pub StandFrom-other : (client first : ℕ) (log : List Record) (rec : Record) → number_by client rec ≡ None → StandFrom client first log → StandFrom client first (log ++ rec ∷ [])
+pub StandFrom-other : (client first : ℕ) (log : List Record) (rec : Record) → number_by client rec ≡ None → StandFrom client first log
+    → StandFrom client first (log ++ rec ∷ [])
 StandFrom-other client first log rec other run =
     let same : numbers_of client (log ++ rec ∷ []) ≡ numbers_of client log =
     numbers_of-push client log rec ∙ ap (λ o. numbers_of client log ++ option_to_list o) other ∙ append-nil (numbers_of client log) in

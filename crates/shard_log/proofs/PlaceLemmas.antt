@@ -38,14 +38,17 @@ last_below-past end (p ∷ ps) past =
     grind arith
 
 -- after a place below `end`, and none below it later, its number is the last
-last_below-at : (end : ℕ) (before : List Place) (p : Place) (after : List Place) → nat_lt p.local end ≡ true → ((k : ℕ) (d : Place) → k < length after → nat_lt (get_or after k d).local end ≡ false) → last_below end (before ++ p ∷ after) ≡ Some p.number
+last_below-at : (end : ℕ) (before : List Place) (p : Place) (after : List Place) → nat_lt p.local end ≡ true
+    → ((k : ℕ) (d : Place) → k < length after → nat_lt (get_or after k d).local end ≡ false) → last_below end (before ++ p ∷ after) ≡ Some p.number
 last_below-at end before p after here past =
     let rest : last_below end after ≡ None = last_below-past end after past in
     let from : last_below end (p ∷ after) ≡ Some p.number = grind arith in
     last_below-append end before (p ∷ after) ∙ ap (λ o. option_or o (last_below end before)) from
 
 -- the number of the last place below `end` is that of the last one before the point up to which they are below it
-pub last_below-point : (end count : ℕ) (ps : List Place) → count ≤ length ps → IsPartitionPoint (λ (p : Place). nat_lt p.local end ≡ true) (λ (p : Place). nat_lt p.local end ≡ false) ps count → last_below end ps ≡ option_map (λ (p : Place). p.number) (slice_get (take count ps) (length (take count ps) - 1))
+pub last_below-point : (end count : ℕ) (ps : List Place) → count ≤ length ps
+    → IsPartitionPoint (λ (p : Place). nat_lt p.local end ≡ true) (λ (p : Place). nat_lt p.local end ≡ false) ps count
+    → last_below end ps ≡ option_map (λ (p : Place). p.number) (slice_get (take count ps) (length (take count ps) - 1))
 last_below-point end zero ps bound point = last_below-past end ps (λ k d h. point.1 k d (omega arith) h)
 last_below-point end (suc n) ps bound point =
     let d : Place = record { local = 0; number = 0 } in

@@ -3,4 +3,4 @@ pub mod ShardLog
 pub mod Calls
 pub mod Places
 pub mod Index
-pub mod Indexed
+pub mod Insides

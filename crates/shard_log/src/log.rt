@@ -31,7 +31,7 @@ impl Model for ShardLog {
 
     ghost Value = { List Record };
 
-    ghost use Rattle.shard_log.specs.Indexed.{IsIndexed};
+    ghost use Rattle.shard_log.specs.Insides.{IsIndexed};
 
     ghost view = { λ l. l.records.items };
 

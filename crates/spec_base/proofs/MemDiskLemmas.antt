@@ -15,7 +15,8 @@ pub elapses_same : (calls : List DiskCall) → Elapses (length calls) (length ca
 elapses_same calls = record { no_earlier = omega arith; nothing_else = λ t c le left. inl left; keeps = λ t c le left. left }
 
 -- one call more
-pub elapses_call : (call : DiskCall) (calls : List DiskCall) → Elapses (length calls) (length (call ∷ calls)) (WasLeft calls) (WasLeft (call ∷ calls)) (IsLeft (call ∷ calls))
+pub elapses_call : (call : DiskCall) (calls : List DiskCall)
+    → Elapses (length calls) (length (call ∷ calls)) (WasLeft calls) (WasLeft (call ∷ calls)) (IsLeft (call ∷ calls))
 elapses_call call calls = record {
   no_earlier = omega arith;
   nothing_else = λ t c le left. elim left [ inl now ↦ inr now | inr before ↦ inl before.1 ];
@@ -64,7 +65,8 @@ drop_padded size old = elim (cases_lt (length old) size) [
 ]
 
 -- bytes that are put over the lengthened content
-pub put_over : (at : ℕ) (bytes old padded new : List ℕ) → padded ≡ old ++ replicate (at + length bytes - length old) 0 → new ≡ take at padded ++ bytes ++ drop (at + length bytes) padded → new ≡ overwritten at bytes old
+pub put_over : (at : ℕ) (bytes old padded new : List ℕ) → padded ≡ old ++ replicate (at + length bytes - length old) 0
+    → new ≡ take at padded ++ bytes ++ drop (at + length bytes) padded → new ≡ overwritten at bytes old
 put_over at bytes old padded new pads puts =
     puts
     ∙ ap (λ (l : List ℕ). l ++ bytes ++ drop (at + length bytes) padded) (ap (take at) pads ∙ take_padded at (at + length bytes) old (omega arith))
@@ -84,5 +86,6 @@ none_new_to old new is c left =
     synced_not_new old c now
 
 -- a call that was put at the end is the newest
-pub pushed : (items pushed_items calls : List DiskCall) (call : DiskCall) → reverse items ≡ calls → pushed_items ≡ items ++ call ∷ [] → reverse pushed_items ≡ call ∷ calls
+pub pushed : (items pushed_items calls : List DiskCall) (call : DiskCall) → reverse items ≡ calls → pushed_items ≡ items ++ call ∷ []
+    → reverse pushed_items ≡ call ∷ calls
 pushed items pushed_items calls call same is = ap reverse is ∙ newest_first items call ∙ ap (λ (l : List DiskCall). call ∷ l) same

@@ -17,8 +17,8 @@ faults_of shelf name = option_map_or (λ (slot : Slot). slot.faults) (slot_of sh
 abbrev pub told_row : MemShelf → List ℕ → ℕ
 told_row shelf name = option_map_or (λ (slot : Slot). slot.row) (slot_of shelf name) 0
 
-abbrev pub row_of : MemShelf → List ℕ → ℕ
-row_of shelf name = min (told_row shelf name) 2
+abbrev pub failures_of : MemShelf → List ℕ → ℕ
+failures_of shelf name = min (told_row shelf name) 2
 
 abbrev pub given_of : MemShelf → List ℕ → ℕ
 given_of shelf name = option_map_or (λ (slot : Slot). slot.given) (slot_of shelf name) 0

@@ -23,6 +23,7 @@ mod source;
 mod spelling;
 mod std_sink;
 mod std_source;
+mod std_stream;
 mod stop;
 #[cfg(test)]
 mod tests;
@@ -40,4 +41,5 @@ pub use source::Source;
 pub use spelling::{NodeName, spell, unspell};
 pub use std_sink::StdSink;
 pub use std_source::StdSource;
+pub use std_stream::StdStream;
 pub use stop::Stop;

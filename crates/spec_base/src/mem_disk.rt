@@ -127,16 +127,16 @@ impl Disk for MemDisk {
             else Ok (min (length (drop at (content_of self.old.calls))) (length into.old))) }
         ensures planned { self.new.plan ≡ after_call self.old.plan }
         ensures calls { self.new.calls ≡ self.old.calls }
+        ensures count { CountsFault self.old.plan.faults self.new.plan.faults result }
+        ensures row { CountsRow self.old.row self.new.row result }
+        ensures sound { StaysSound (is_sound self.old.plan) (is_sound self.new.plan) self.old.plan.faults self.new.plan.faults }
+        ensures time { Elapses (length self.old.calls) (length self.new.calls) (WasLeft self.old.calls) (WasLeft self.new.calls) (IsLeft self.new.calls) }
         ensures untouched { OnErr result (into.new ≡ into.old) }
         ensures behind { IfOk result (λ n. drop n into.new ≡ drop n into.old) }
         ensures fits { IfOk result (λ n. n ≤ length into.new) }
         ensures given { IfOk result (λ n. GivesPart at n into.new (content_of self.old.calls)) }
         ensures seen { Some (content_of self.new.calls) ≡ Some (content_of self.old.calls) }
         ensures crash { SameOutcomes (IsLeft self.old.calls) (IsLeft self.new.calls) }
-        ensures time { Elapses (length self.old.calls) (length self.new.calls) (WasLeft self.old.calls) (WasLeft self.new.calls) (IsLeft self.new.calls) }
-        ensures count { CountsFault self.old.plan.faults self.new.plan.faults result }
-        ensures row { CountsRow self.old.row self.new.row result }
-        ensures sound { StaysSound (is_sound self.old.plan) (is_sound self.new.plan) self.old.plan.faults self.new.plan.faults }
     {
         if self.next_fails() {
             return Err(Stop::Failed);
@@ -153,13 +153,13 @@ impl Disk for MemDisk {
         ensures planned { self.new.plan ≡ after_call self.old.plan }
         ensures called { OnOk result (self.new.calls ≡ Write at bytes.now ∷ self.old.calls) }
         ensures err { OnErr result (self.new.calls ≡ self.old.calls) }
-        ensures written { OnOk result (Written at bytes.now (content_of self.old.calls) (content_of self.new.calls)) }
-        ensures torn { OnErr result (Torn at (length bytes.now) (content_of self.old.calls) (content_of self.new.calls)) }
-        ensures crash { Follows (Torn at (length bytes.now)) (IsLeft self.old.calls) (IsLeft self.new.calls) }
-        ensures time { Elapses (length self.old.calls) (length self.new.calls) (WasLeft self.old.calls) (WasLeft self.new.calls) (IsLeft self.new.calls) }
         ensures count { CountsFault self.old.plan.faults self.new.plan.faults result }
         ensures row { CountsRow self.old.row self.new.row result }
         ensures sound { StaysSound (is_sound self.old.plan) (is_sound self.new.plan) self.old.plan.faults self.new.plan.faults }
+        ensures time { Elapses (length self.old.calls) (length self.new.calls) (WasLeft self.old.calls) (WasLeft self.new.calls) (IsLeft self.new.calls) }
+        ensures written { OnOk result (Written at bytes.now (content_of self.old.calls) (content_of self.new.calls)) }
+        ensures torn { OnErr result (Torn at (length bytes.now) (content_of self.old.calls) (content_of self.new.calls)) }
+        ensures crash { Follows (Torn at (length bytes.now)) (IsLeft self.old.calls) (IsLeft self.new.calls) }
     {
         if self.next_fails() {
             // Nothing of it is written.
@@ -176,14 +176,14 @@ impl Disk for MemDisk {
         ensures planned { self.new.plan ≡ after_call self.old.plan }
         ensures called { OnOk result (self.new.calls ≡ Sync ∷ self.old.calls) }
         ensures err { OnErr result (self.new.calls ≡ self.old.calls) }
+        ensures count { CountsFault self.old.plan.faults self.new.plan.faults result }
+        ensures row { CountsRow self.old.row self.new.row result }
+        ensures sound { StaysSound (is_sound self.old.plan) (is_sound self.new.plan) self.old.plan.faults self.new.plan.faults }
+        ensures time { Elapses (length self.old.calls) (length self.new.calls) (WasLeft self.old.calls) (WasLeft self.new.calls) (IsLeft self.new.calls) }
         ensures durable { OnOk result (Only (content_of self.old.calls) (IsLeft self.new.calls)) }
         ensures seen { Some (content_of self.new.calls) ≡ Some (content_of self.old.calls) }
         ensures none_new { NoneNew (IsLeft self.old.calls) (IsLeft self.new.calls) }
         ensures crash { OnErr result (SameOutcomes (IsLeft self.old.calls) (IsLeft self.new.calls)) }
-        ensures time { Elapses (length self.old.calls) (length self.new.calls) (WasLeft self.old.calls) (WasLeft self.new.calls) (IsLeft self.new.calls) }
-        ensures count { CountsFault self.old.plan.faults self.new.plan.faults result }
-        ensures row { CountsRow self.old.row self.new.row result }
-        ensures sound { StaysSound (is_sound self.old.plan) (is_sound self.new.plan) self.old.plan.faults self.new.plan.faults }
     {
         if self.next_fails() {
             return Err(Stop::Failed);

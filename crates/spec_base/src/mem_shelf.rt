@@ -46,7 +46,7 @@ pub struct MemShelf {
 }
 
 impl MemShelf {
-    ghost use Rattle.spec_base.specs.MemShelf.{faults_of, row_of, is_out_of, kept_of, fails_of, calls_for};
+    ghost use Rattle.spec_base.specs.MemShelf.{faults_of, failures_of, is_out_of, kept_of, fails_of, calls_for};
 
     /// A shelf on which no name has a disk yet. The disk of a name will fail at the calls that `fails` has for it.
     pub fn new(alloc: Global, fails: &[DiskFail]) -> Result<MemShelf, OutOfMemory>
@@ -54,7 +54,7 @@ impl MemShelf {
         ensures nothing_kept { IfOk result (λ shelf. (name : List ℕ) → kept_of shelf name ≡ None) }
         ensures none_out { IfOk result (λ shelf. (name : List ℕ) → is_out_of shelf name ≡ false) }
         ensures faults { IfOk result (λ shelf. (name : List ℕ) → faults_of shelf name ≡ 0) }
-        ensures rows { IfOk result (λ shelf. (name : List ℕ) → row_of shelf name ≡ 0) }
+        ensures rows { IfOk result (λ shelf. (name : List ℕ) → failures_of shelf name ≡ 0) }
     {
         let mut kept = Vec::with_capacity(alloc, fails.len())?;
         for fail in fails {
@@ -123,7 +123,7 @@ impl Slot {
 impl Shelf for MemShelf {
     type D = MemDisk;
 
-    ghost use Rattle.spec_base.specs.MemShelf.{faults_of, told_row, row_of, given_of, is_out_of, kept_of, fails_of, calls_for};
+    ghost use Rattle.spec_base.specs.MemShelf.{faults_of, told_row, failures_of, given_of, is_out_of, kept_of, fails_of, calls_for};
     ghost use Rattle.spec_base.specs.MemDiskLaws.{at_most_two};
 
     ghost faults = { faults_of };
@@ -132,7 +132,7 @@ impl Shelf for MemShelf {
 
     ghost given = { given_of };
 
-    ghost in_a_row = { row_of };
+    ghost in_a_row = { failures_of };
 
     ghost tells = { λ _. true };
 
@@ -154,9 +154,9 @@ impl Shelf for MemShelf {
         ensures err_out { OnErr result (is_out_of self.new name.now ≡ false) }
         ensures err_kept { OnErr result (kept_of self.new name.now ≡ kept_of self.old name.now) }
         ensures count { CountsFault (faults_of self.old name.now) (faults_of self.new name.now) result }
-        ensures row { CountsRow (row_of self.old name.now) (row_of self.new name.now) result }
+        ensures row { CountsRow (failures_of self.old name.now) (failures_of self.new name.now) result }
         ensures other_faults { SameBut name.now (faults_of self.old) (faults_of self.new) }
-        ensures other_rows { SameBut name.now (row_of self.old) (row_of self.new) }
+        ensures other_rows { SameBut name.now (failures_of self.old) (failures_of self.new) }
         ensures other_out { SameBut name.now (is_out_of self.old) (is_out_of self.new) }
         ensures other_given { SameBut name.now (given_of self.old) (given_of self.new) }
         ensures other_kept { SameBut name.now (kept_of self.old) (kept_of self.new) }
@@ -183,9 +183,9 @@ impl Shelf for MemShelf {
         ensures on_shelf { is_out_of self.new name.now ≡ false }
         ensures kept { kept_of self.new name.now ≡ Some disk }
         ensures count { faults_of self.new name.now ≡ min (faults_of self.old name.now + (disk.plan.faults - given_of self.old name.now)) (2 ^ 64 - 1) }
-        ensures row { row_of self.new name.now ≡ failures_in_a_row disk }
+        ensures row { failures_of self.new name.now ≡ failures_in_a_row disk }
         ensures other_faults { SameBut name.now (faults_of self.old) (faults_of self.new) }
-        ensures other_rows { SameBut name.now (row_of self.old) (row_of self.new) }
+        ensures other_rows { SameBut name.now (failures_of self.old) (failures_of self.new) }
         ensures other_out { SameBut name.now (is_out_of self.old) (is_out_of self.new) }
         ensures other_given { SameBut name.now (given_of self.old) (given_of self.new) }
         ensures other_kept { SameBut name.now (kept_of self.old) (kept_of self.new) }

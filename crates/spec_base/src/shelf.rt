@@ -50,11 +50,11 @@ pub trait Shelf {
     /// Takes the disk of that name back, and counts its faults since it was given. It takes no memory.
     fn back(&mut self, name: &str, disk: Self::D)
         requires { is_out self.old name.now ≡ true }
+        ensures tells { tells self.new ≡ tells self.old }
         ensures on_shelf { is_out self.new name.now ≡ false }
         ensures kept { IsTrue (tells self.old) → kept self.new name.now ≡ Some disk }
         ensures count { faults self.new name.now ≡ min (faults self.old name.now + (Self.D.faults disk - given self.old name.now)) (2 ^ 64 - 1) }
         ensures row { in_a_row self.new name.now ≡ Self.D.in_a_row disk }
-        ensures tells { tells self.new ≡ tells self.old }
         ensures other_faults { SameBut name.now (faults self.old) (faults self.new) }
         ensures other_rows { SameBut name.now (in_a_row self.old) (in_a_row self.new) }
         ensures other_out { SameBut name.now (is_out self.old) (is_out self.new) }

@@ -3,42 +3,21 @@ ghost use Rattle.std.specs.Io.KnownBytes.{WriteAppends};
 ghost use Rattle.spec_base.specs.Faults.{CountsFault};
 
 use crate::sink::Sink;
+use crate::std_stream::StdStream;
 use crate::stop::Stop;
 use std::io::Write;
-use std::marker::Model;
 
 /// A sink over a writer of std. It can't tell what was taken. Contracts see it as the writer and its count of errors.
 ///
 /// Nothing flushes the writer: give one that keeps no bytes back, as standard output.
-#[derive(Drop)]
-pub struct StdSink<W> {
-    writer: W,
-    faults: u64,
-}
+pub type StdSink<W> = StdStream<W>;
 
-impl<W> Model for StdSink<W> {
-    ghost use Rattle.spec_base.specs.Adapter.{Adapter};
-
-    ghost Value = { Adapter W };
-
-    ghost view = { λ s. record { inner = s.writer; faults = s.faults } };
-}
-
-impl<W> StdSink<W> {
-    /// The writer, with no fault yet.
-    pub fn new(writer: W) -> StdSink<W>
-        ensures { result ≡ record { inner = writer; faults = 0 } }
-    {
-        StdSink { writer, faults: 0 }
-    }
-}
-
-impl<W: Write> Sink for StdSink<W> {
-    ghost taken = { λ _. None };
-
+impl<W: Write> Sink for StdStream<W> {
     ghost faults = { λ s. s.faults };
 
     ghost never_fails = { λ _. false };
+
+    ghost taken = { λ _. None };
 
     /// One write of the writer. Each of its errors is a fault, and so is an answer of 0 for a piece that isn't empty.
     fn write(&mut self, piece: &[u8]) -> Result<usize, Stop>
@@ -47,7 +26,7 @@ impl<W: Write> Sink for StdSink<W> {
         ensures some { IfOk result (λ n. 0 < length piece.now → 0 < n) }
         ensures count { CountsFault self.old.faults self.new.faults result }
     {
-        match self.writer.write(piece) {
+        match self.inner.write(piece) {
             Ok(count) if count > 0 || piece.is_empty() => Ok(count),
             _ => {
                 self.faults = self.faults.saturating_add(1);

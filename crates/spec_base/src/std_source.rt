@@ -3,35 +3,14 @@ ghost use Rattle.std.specs.Io.KnownBytes.{ReadConsumes};
 ghost use Rattle.spec_base.specs.Faults.{CountsFault};
 
 use crate::source::Source;
+use crate::std_stream::StdStream;
 use crate::stop::Stop;
 use std::io::Read;
-use std::marker::Model;
 
 /// A source over a reader of std. It can't tell what is left. Contracts see it as the reader and its count of errors.
-#[derive(Drop)]
-pub struct StdSource<R> {
-    reader: R,
-    faults: u64,
-}
+pub type StdSource<R> = StdStream<R>;
 
-impl<R> Model for StdSource<R> {
-    ghost use Rattle.spec_base.specs.Adapter.{Adapter};
-
-    ghost Value = { Adapter R };
-
-    ghost view = { λ s. record { inner = s.reader; faults = s.faults } };
-}
-
-impl<R> StdSource<R> {
-    /// The reader, with no fault yet.
-    pub fn new(reader: R) -> StdSource<R>
-        ensures { result ≡ record { inner = reader; faults = 0 } }
-    {
-        StdSource { reader, faults: 0 }
-    }
-}
-
-impl<R: Read> Source for StdSource<R> {
+impl<R: Read> Source for StdStream<R> {
     ghost left = { λ _. None };
 
     ghost faults = { λ s. s.faults };
@@ -44,7 +23,7 @@ impl<R: Read> Source for StdSource<R> {
         ensures fits { IfOk result (λ n. n ≤ length into.new) }
         ensures count { CountsFault self.old.faults self.new.faults result }
     {
-        match self.reader.read(into) {
+        match self.inner.read(into) {
             Ok(count) => Ok(count),
             Err(_) => {
                 self.faults = self.faults.saturating_add(1);

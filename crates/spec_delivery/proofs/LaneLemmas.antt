@@ -47,7 +47,8 @@ past a b h = elim (nat_lt a b) as (λ t. nat_lt a b ≡ t → cond t Less (cond 
 
 -- what holds of each local that is held
 module _ (P : ℕ → Type 0) where
-  pub all-insert : (es : List (ℕ × Record)) (k : ℕ) (r : Record) → AllByRecursion (λ e. P e.0) es → P k → AllByRecursion (λ e. P e.0) (insert_entry nat_cmp es k r)
+  pub all-insert : (es : List (ℕ × Record)) (k : ℕ) (r : Record) → AllByRecursion (λ e. P e.0) es → P k
+      → AllByRecursion (λ e. P e.0) (insert_entry nat_cmp es k r)
   all-insert [] k r h here = (here, tt)
   all-insert (e ∷ es) k r h here =
       elim (nat_cmp k e.0) as (λ o. AllByRecursion (λ e. P e.0) (match_ordering o ((k, r) ∷ e ∷ es) ((e.0, r) ∷ es) (e ∷ insert_entry nat_cmp es k r))) [
@@ -72,7 +73,8 @@ module _ (P : ℕ → Type 0) where
         | false ↦ λ _ rest. all-lookup local es h.1 rest
       ] refl found
 
-  pub all-filter : (end : ℕ) (es : List (ℕ × Record)) → AllByRecursion (λ e. P e.0) es → AllByRecursion (λ e. P e.0 × e.0 < end) (filter (λ e. nat_lt e.0 end) es)
+  pub all-filter : (end : ℕ) (es : List (ℕ × Record)) → AllByRecursion (λ e. P e.0) es
+      → AllByRecursion (λ e. P e.0 × e.0 < end) (filter (λ e. nat_lt e.0 end) es)
   all-filter end [] h = tt
   all-filter end (e ∷ es) h =
       elim (nat_lt e.0 end) as (λ b. nat_lt e.0 end ≡ b → AllByRecursion (λ e. P e.0 × e.0 < end) (cond b (e ∷ filter (λ e. nat_lt e.0 end) es) (filter (λ e. nat_lt e.0 end) es))) [
@@ -80,7 +82,8 @@ module _ (P : ℕ → Type 0) where
         | false ↦ λ _. all-filter end es h.1
       ] refl
 
-pub all-both : (P Q R : ℕ × Record → Type 0) → ((e : ℕ × Record) → P e → Q e → R e) → (es : List (ℕ × Record)) → AllByRecursion P es → AllByRecursion Q es → AllByRecursion R es
+pub all-both : (P Q R : ℕ × Record → Type 0) → ((e : ℕ × Record) → P e → Q e → R e) → (es : List (ℕ × Record)) → AllByRecursion P es → AllByRecursion Q es
+    → AllByRecursion R es
 all-both P Q R both [] h k = tt
 all-both P Q R both (e ∷ es) h k = (both e h.0 k.0, all-both P Q R both es h.1 k.1)
 
@@ -89,7 +92,9 @@ all-one P R one [] h = tt
 all-one P R one (e ∷ es) h = (one e h.0, all-one P R one es h.1)
 
 -- what is held is in reach of the lane that follows
-pub reach_raised : (floor : ℕ) (end : Option ℕ) (old new : List (ℕ × Record)) → HoldsInReach (record { floor = floor; end = end; held = old }) → new ≡ remove_entry (eq_by_cmp nat_cmp floor) old → lookup (eq_by_cmp nat_cmp floor) new ≡ None → HoldsInReach (record { floor = floor + 1; end = end; held = new })
+pub reach_raised : (floor : ℕ) (end : Option ℕ) (old new : List (ℕ × Record)) → HoldsInReach (record { floor = floor; end = end; held = old })
+    → new ≡ remove_entry (eq_by_cmp nat_cmp floor) old → lookup (eq_by_cmp nat_cmp floor) new ≡ None
+    → HoldsInReach (record { floor = floor + 1; end = end; held = new })
 reach_raised floor end old new h is gone =
     let lane : LaneState = record { floor = floor; end = end; held = old } in
     let next : LaneState = record { floor = floor + 1; end = end; held = new } in
@@ -97,7 +102,8 @@ reach_raised floor end old new h is gone =
     let others : AllByRecursion (λ e. eq_by_cmp nat_cmp floor e.0 ≡ false) new = none_passes_from_lookup (eq_by_cmp nat_cmp floor) new gone in
     all-both (λ e. IsInReach lane e.0) (λ e. eq_by_cmp nat_cmp floor e.0 ≡ false) (λ e. IsInReach next e.0) (λ e r other. (apart floor e.0 r.0 other, omega (arith, r.1), r.2)) new stay others
 
-pub reach_closed : (floor : ℕ) (end : Option ℕ) (new_end : ℕ) (old new : List (ℕ × Record)) → HoldsInReach (record { floor = floor; end = end; held = old }) → new ≡ filter (λ e. nat_lt e.0 new_end) old → HoldsInReach (record { floor = floor; end = Some new_end; held = new })
+pub reach_closed : (floor : ℕ) (end : Option ℕ) (new_end : ℕ) (old new : List (ℕ × Record)) → HoldsInReach (record { floor = floor; end = end; held = old })
+    → new ≡ filter (λ e. nat_lt e.0 new_end) old → HoldsInReach (record { floor = floor; end = Some new_end; held = new })
 reach_closed floor end new_end old new h is =
     let lane : LaneState = record { floor = floor; end = end; held = old } in
     let next : LaneState = record { floor = floor; end = Some new_end; held = new } in
@@ -108,7 +114,8 @@ all_past : (k : ℕ) (es : List (ℕ × Record)) → AllByRecursion (λ y. nat_c
 all_past k [] h = tt
 all_past k (e ∷ es) h = (past k e.0 h.0, all_past k es h.1)
 
-few_between : (low high : ℕ) (es : List (ℕ × Record)) → AllByRecursion (λ e. low ≤ e.0) es → AllByRecursion (λ e. e.0 < high) es → IsStrictlySortedBy nat_cmp (keys_of es) → length es ≤ high - low
+few_between : (low high : ℕ) (es : List (ℕ × Record)) → AllByRecursion (λ e. low ≤ e.0) es → AllByRecursion (λ e. e.0 < high) es
+    → IsStrictlySortedBy nat_cmp (keys_of es) → length es ≤ high - low
 few_between low high [] least most order = omega arith
 few_between low high (e ∷ es) least most order =
     let rest : length es ≤ high - (e.0 + 1) = few_between (e.0 + 1) high es (all_past e.0 es (sorted_head nat_cmp e.0 (keys_of es) order)) most.1 (sorted_tail nat_cmp e.0 (keys_of es) order) in

@@ -88,8 +88,8 @@ impl Desk {
 
     /// The same, by a type that has the submitter's number.
     fn split_as<N: Number>(&self, pass: &mut DeskPass, by: u8) -> DeskPass
-        requires number { by ≡ N.by }
         requires desk { pass.old.desk ≡ self.now.desk }
+        requires number { by ≡ N.by }
         requires takes { pass.old.knows.takes ≡ true }
         requires by { (by ≤ 7) × (pass.old.knows.next ≤ by) }
         ensures desk { (pass.new.desk ≡ pass.old.desk) × (result.desk ≡ pass.old.desk) }

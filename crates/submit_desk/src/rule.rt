@@ -1,5 +1,6 @@
 //! The rule of a desk, as the queue asks for it, and what each call tells and learns.
 ghost use Rattle.std.specs.Prelude.{ℕ};
+ghost use Rattle.submit_desk.specs.Rule.{Accounts, EndsWith, Gets, Puts};
 
 use crate::item::DeskItem;
 use crate::knows::Knows;
@@ -23,14 +24,10 @@ impl Protocol<DeskItem, Knows> for InOrder {
 pub(crate) struct Submits;
 
 impl Outcome<DeskItem, Knows> for Submits {
-    ghost use Rattle.submit_desk.specs.Rule.{Puts};
-
     ghost then = { Puts };
 }
 
 impl Lesson<DeskItem, Knows> for Submits {
-    ghost use Rattle.submit_desk.specs.Rule.{EndsWith};
-
     ghost fact = { EndsWith };
 }
 
@@ -38,14 +35,10 @@ impl Lesson<DeskItem, Knows> for Submits {
 pub(crate) struct Takes;
 
 impl Outcome<DeskItem, Knows> for Takes {
-    ghost use Rattle.submit_desk.specs.Rule.{Gets};
-
     ghost then = { Gets };
 }
 
 impl Lesson<DeskItem, Knows> for Takes {
-    ghost use Rattle.submit_desk.specs.Rule.{Accounts};
-
     ghost fact = { Accounts };
 }
 

@@ -68,7 +68,8 @@ impl<U: Drop> UndoPoints<U> {
     pub fn back_to<A: App<Undo = U>>(&mut self, position: u64, app: &mut A)
         ensures points { self.new ≡ points_below self.old position }
         ensures state { app.new ≡ taken_back A.restored (from_on point_position position self.old.held) app.old }
-        ensures before { (s : A) (log : List Record) → Gave A.next_state A.restored s log self.old.held → app.old ≡ fold_of A.next_state s log → app.new ≡ fold_of A.next_state s (take (length (below point_position position self.old.held)) log) }
+        ensures before { (s : A) (log : List Record) → Gave A.next_state A.restored s log self.old.held → app.old ≡ fold_of A.next_state s log
+            → app.new ≡ fold_of A.next_state s (take (length (below point_position position self.old.held)) log) }
     {
         let _ = &self.held;
         self.take_back(position, app);

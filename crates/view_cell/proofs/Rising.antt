@@ -47,7 +47,8 @@ lower_begins n (x ∷ xs) (y ∷ ys) (z ∷ zs) r p q le =
     (rest.0, cc (one, rest.1))
 
 -- the same of two beginnings of a history
-pub older_begins : (xs ys zs : List Look) (x y : Look) → IsHistory zs → IsPrefix xs zs → IsPrefix ys zs → newest_of xs ≡ Some x → newest_of ys ≡ Some y → x.ops ≤ y.ops → IsPrefix xs ys
+pub older_begins : (xs ys zs : List Look) (x y : Look) → IsHistory zs → IsPrefix xs zs → IsPrefix ys zs → newest_of xs ≡ Some x → newest_of ys ≡ Some y
+    → x.ops ≤ y.ops → IsPrefix xs ys
 older_begins [] ys zs x y h p q a b le = absurd (cc (a))
 older_begins (u ∷ us) [] zs x y h p q a b le = absurd (cc (b))
 older_begins (u ∷ us) (v ∷ vs) [] x y h p q a b le = absurd h
@@ -118,7 +119,8 @@ above n (z ∷ zs) r x zero lt at = subst (λ (u : Look). n < u.ops) at r.0
 above n (z ∷ zs) r x (suc k) lt at = let rest = above z.ops zs r.1 x k (omega arith) at in let here = r.0 in omega arith
 
 -- what has a number up to a beginning's last stands in that beginning
-rising_up_to : (n : ℕ) (ys zs : List Look) → IsRising n zs → IsPrefix ys zs → (x : Look) (k : ℕ) → k < length zs → slice_index_or zs k x ≡ x → x.ops ≤ last_number n ys → (k < length ys) × (slice_index_or ys k x ≡ x)
+rising_up_to : (n : ℕ) (ys zs : List Look) → IsRising n zs → IsPrefix ys zs → (x : Look) (k : ℕ) → k < length zs → slice_index_or zs k x ≡ x
+    → x.ops ≤ last_number n ys → (k < length ys) × (slice_index_or ys k x ≡ x)
 rising_up_to n [] zs r p x k lt at le = let up = above n zs r x k lt at in absurd (omega arith)
 rising_up_to n (y ∷ ys) [] r p x k lt at le = absurd (omega arith)
 rising_up_to n (y ∷ ys) (z ∷ zs) r p x zero lt at le = let heads : z ≡ y = cc (p.1) in (omega arith, sym heads ∙ at)
@@ -127,7 +129,8 @@ rising_up_to n (y ∷ ys) (z ∷ zs) r p x (suc k) lt at le =
     let rest = rising_up_to y.ops ys zs (subst (λ (u : Look). IsRising u.ops zs) heads r.1) (p.0, cc (p.1)) x k (omega arith) at le in
     (let less = rest.0 in omega arith, rest.1)
 
-pub history_up_to : (zs ys : List Look) (newest x : Look) → IsHistory zs → IsPrefix ys zs → newest_of ys ≡ Some newest → Contains zs x → x.ops ≤ newest.ops → Contains ys x
+pub history_up_to : (zs ys : List Look) (newest x : Look) → IsHistory zs → IsPrefix ys zs → newest_of ys ≡ Some newest → Contains zs x → x.ops ≤ newest.ops
+    → Contains ys x
 history_up_to [] ys newest x h p e c le = absurd h
 history_up_to (z ∷ zs) [] newest x h p e c le = absurd (cc (e))
 history_up_to (z ∷ zs) (y ∷ ys) newest x h p e (zero, lt, at) le = let heads : z ≡ y = cc (p.1) in (zero, omega arith, sym heads ∙ at)
@@ -151,5 +154,6 @@ pub all_stand : (xs zs ys : List Look) → IsPrefix xs zs → All (Contains xs) 
 all_stand xs zs ys p a = All-weaker (Contains xs) (Contains zs) (λ y. stands_later xs zs y p) ys a
 
 -- the same with one look more, the newest of another beginning
-pub all_stand_more : (xs ys zs looks : List Look) (x : Look) → IsPrefix xs zs → IsPrefix ys zs → newest_of ys ≡ Some x → All (Contains xs) looks → All (Contains zs) (looks ++ x ∷ [])
+pub all_stand_more : (xs ys zs looks : List Look) (x : Look) → IsPrefix xs zs → IsPrefix ys zs → newest_of ys ≡ Some x → All (Contains xs) looks
+    → All (Contains zs) (looks ++ x ∷ [])
 all_stand_more xs ys zs looks x p q e a = All-push (Contains zs) looks x (all_stand xs zs looks p a) (stands_later ys zs x q (newest_stands ys x e))

@@ -94,7 +94,8 @@ pub(crate) fn put<R: Wait>(
     ensures idle { drop result.0.behind result.0.log.items ≡ [] }
     ensures book { result.0.desk.shown.value.seen.book ≡ writer.desk.shown.value.seen.book }
     ensures history { IsHistory writer.desk.shown.value.seen.log → IsHistory next.seen.log → IsHistory result.0.desk.shown.value.seen.log }
-    ensures knows { (view writer.desk.place).head ≡ word_of writer.desk.shown.value.seen.book → (view result.0.desk.place).head ≡ word_of result.0.desk.shown.value.seen.book }
+    ensures knows { (view writer.desk.place).head ≡ word_of writer.desk.shown.value.seen.book
+        → (view result.0.desk.place).head ≡ word_of result.0.desk.shown.value.seen.book }
     ensures ok { OnOk result.1 ((result.0.desk.shown.value ≡ next) × ((view result.0.desk.place).head ≡ word_of next.seen.book)) }
     ensures err { OnErr result.1 ((result.0.desk.shown.value ≡ writer.desk.shown.value) × (view result.0.desk.place ≡ view writer.desk.place)) }
 {

@@ -7,5 +7,6 @@ ghost use Rattle.view_cell.specs.Looks.{IsHistory, newest_of};
 
 /// Each look of a history with a number up to that of a beginning's newest stands in that beginning.
 pub fn up_to_the_told()
-    ensures { (seen told : List Look) (newest x : Look) → IsHistory seen → IsPrefix told seen → newest_of told ≡ Some newest → Contains seen x → x.ops ≤ newest.ops → Contains told x }
+    ensures { (seen told : List Look) (newest x : Look) → IsHistory seen → IsPrefix told seen → newest_of told ≡ Some newest → Contains seen x
+        → x.ops ≤ newest.ops → Contains told x }
 {}

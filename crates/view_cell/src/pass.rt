@@ -49,7 +49,8 @@ impl ReaderPass {
         ensures newest { newest_of self.new.seen ≡ Some self.new.last }
         ensures history { IsHistory self.new.seen }
         ensures handed { All (Contains self.new.seen) self.new.handed }
-        ensures met { IsTrue self.new.met → (x : _) × (last_number 0 self.old.handed ≤ x.ops) × (self.new.handed ≡ self.old.handed ++ x ∷ []) × (self.new.last ≡ later_of self.old.last x) }
+        ensures met { IsTrue self.new.met
+            → (x : _) × (last_number 0 self.old.handed ≤ x.ops) × (self.new.handed ≡ self.old.handed ++ x ∷ []) × (self.new.last ≡ later_of self.old.last x) }
         ensures not_met { IsFalse self.new.met → (self.new.handed ≡ self.old.handed) × (self.new.seen ≡ self.old.seen) × (self.new.last ≡ self.old.last) }
     {
         let found = replace_with(

@@ -1,10 +1,12 @@
 ghost use Rattle.std.specs.Prelude.{◌≡◌, ◌+◌, ◌*◌, ◌^◌, ◌<◌, ◌≤◌, min, length, IsTrue};
-ghost use Rattle.fix_ante.specs.Windows.{has_row, width_of, end_of};
+ghost use Rattle.fix_ante.specs.Windows.{has_row, rows_of, width_of, end_of};
 ghost use Rattle.fix_ante.specs.Layout.{owner_of};
-ghost use Rattle.fix_ante.specs.Moves.{IsFirstFailed, first_failed_of, quotas_before};
+ghost use Rattle.fix_ante.specs.Moves.{IsFirstFailed, first_failed_of};
+ghost use Rattle.quota_table.specs.Tables.{quotas_before};
 
 use crate::moved::Moved;
 use fix_ante::{Window, owner};
+use quota_table::offset;
 
 /// The least position that has another owner once the shard is removed, where this many rounds are covered: the
 /// position of the shard's first uncovered local.
@@ -17,23 +19,19 @@ pub fn first_failed(window: &Window, covered: u16, shard: u8) -> u64
     ensures position { result ≡ first_failed_of window.now covered shard }
     ensures uncovered { window.now.base + covered * width_of window.now ≤ result }
 {
-    let begin = window.base() + u64::from(covered) * u64::from(window.width());
-    begin + before(window, shard)
+    window.end_after(covered) + before(window, shard)
 }
 
 /// Positions of a round before the shard's.
 fn before(window: &Window, shard: u8) -> u64
-    ensures before { result ≡ quotas_before window.now.spots shard }
-    ensures most { result ≤ 2048 }
+    requires row { IsTrue (has_row shard window.now.spots) }
+    ensures before { result ≡ quotas_before (rows_of window.now.spots) shard }
+    ensures most { result < 2 ^ 32 }
 {
-    let mut before = 0;
-    for spot in window.spots() {
-        if spot.shard == shard {
-            return before;
-        }
-        before += u64::from(spot.quota);
-    }
-    before
+    let Some(before) = offset(&window.table(), shard) else {
+        unreachable!()
+    };
+    u64::from(before)
 }
 
 /// How many of the applied records stay: the lesser of the two.

@@ -1,6 +1,6 @@
 ghost use Rattle.std.specs.Prelude.{◌≡◌, ◌+◌, ◌<◌, false};
 ghost use Rattle.cut_core.specs.Agreements.{is_gone, gone_row, is_last_round};
-ghost use Rattle.cut_core.specs.Reasons.{fault_of, cut_fault, table_fault, remove_fault};
+ghost use Rattle.cut_core.specs.Reasons.{fault_of, cut_fault, grant_reason, remove_fault};
 
 use crate::agreed::Agreed;
 use crate::effects::Reason;
@@ -38,7 +38,7 @@ impl Agreed {
     }
 
     fn table_fault(&self, after: u32, rows: &Table) -> Option<Reason>
-        ensures { result ≡ table_fault self.now after rows.now }
+        ensures { result ≡ grant_reason self.now after rows.now }
     {
         let current = self.current.number();
         if after != current {

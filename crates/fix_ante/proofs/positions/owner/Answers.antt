@@ -17,7 +17,8 @@ returns-then-round-from-clause-owner c =
     let past : w.rounds ≤ ahead / c.from-width.result = omega arith in
     sym (owner_of_outside w c.args.position (inr (owner_of_past w ahead c.args.position at (rw width at past))))
 
-found : (c : goal.After-owner_in) → (c.args.window.now.base ≤ c.args.position) × (c.args.position < end_of c.args.window.now) × (owner_of c.args.window.now c.args.position ≡ c.owner_in.result)
+found : (c : goal.After-owner_in)
+    → (c.args.window.now.base ≤ c.args.position) × (c.args.position < end_of c.args.window.now) × (owner_of c.args.window.now c.args.position ≡ c.owner_in.result)
 found c =
     let w = c.args.window.now in
     let ahead = c.in_ok-ahead.ahead in

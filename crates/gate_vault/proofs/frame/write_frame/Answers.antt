@@ -7,12 +7,14 @@ use Rattle.gate_vault.proofs.Moments.{leaves_then, leaves_widened}
 use Rattle.gate_vault.proofs.frame.write_frame.Goals as goal
 
 -- what the first put leaves, where it answered Ok
-staged : (entries : List (List ℕ)) (entry : List ℕ) (gate : ℕ) → gate ≡ gate_after entries → (bytes file after : List ℕ) → bytes ≡ payload entry ++ (0 ∷ []) → StandsFor file entries → WrittenOver (gate + 1) bytes file after → IsStaged entries entry after
+staged : (entries : List (List ℕ)) (entry : List ℕ) (gate : ℕ) → gate ≡ gate_after entries → (bytes file after : List ℕ) → bytes ≡ payload entry ++ (0 ∷ [])
+    → StandsFor file entries → WrittenOver (gate + 1) bytes file after → IsStaged entries entry after
 staged entries entry gate place bytes file after are stands written =
     written_behind entries entry gate place file after stands (subst (λ (b : List ℕ). WrittenOver (gate + 1) b file after) are written)
 
 -- the second put, whole
-opened : (entries : List (List ℕ)) (entry : List ℕ) (gate : ℕ) → gate ≡ gate_after entries → (first : List ℕ) (seen : Option (List ℕ)) (outcomes : List ℕ → Type 0) → IsStaged entries entry first
+opened : (entries : List (List ℕ)) (entry : List ℕ) (gate : ℕ) → gate ≡ gate_after entries
+    → (first : List ℕ) (seen : Option (List ℕ)) (outcomes : List ℕ → Type 0) → IsStaged entries entry first
     → IsPut gate (1 ∷ []) first seen outcomes → IsKept seen outcomes (entries ++ entry ∷ [])
 opened entries entry gate place first seen outcomes after put = record {
   file = put.file;
@@ -22,7 +24,8 @@ opened entries entry gate place first seen outcomes after put = record {
 }
 
 -- and torn
-half_opened : (entries : List (List ℕ)) (entry : List ℕ) (gate : ℕ) → gate ≡ gate_after entries → (first : List ℕ) (seen : Option (List ℕ)) → IsStaged entries entry first
+half_opened : (entries : List (List ℕ)) (entry : List ℕ) (gate : ℕ) → gate ≡ gate_after entries → (first : List ℕ) (seen : Option (List ℕ))
+    → IsStaged entries entry first
     → IsTornPut gate 1 first seen → TellsBeforeOrAfter seen entries entry
 half_opened entries entry gate place first seen after torn =
     (torn.0, torn.1, staged_stands entries entry torn.0 (torn_gate entries entry gate place first torn.0 after torn.2))

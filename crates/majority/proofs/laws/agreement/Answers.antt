@@ -1,5 +1,5 @@
 use Rattle.std.proofs.Common.{◌≡◌, ℕ, ◌++◌, ◌≤◌, List, Contains}
-use Rattle.majority.specs.Votes.{Vote, HasVote, IsChosen, IsChosenAt}
+use Rattle.majority.specs.Votes.{Vote, HasVote, IsChosenByVotes, IsChosenAt}
 use Rattle.majority.specs.Slot.{SlotEvent, fresh_slot, slot_run}
 use Rattle.majority.proofs.Agreement.{bars_of, IsSound}
 use Rattle.majority.proofs.Chosen.{OneChosen, ChosenIsCarried}

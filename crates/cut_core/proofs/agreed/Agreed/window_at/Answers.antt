@@ -1,6 +1,6 @@
 use Rattle.std.proofs.Common.{◌<◌, length, subst, arith}
 use Rattle.cut_core.specs.Soundness.{IsSound}
-use Rattle.cut_core.proofs.Standing.{rising_ends, window-found, past-position}
+use Rattle.cut_core.proofs.Standing.{rising_ends, current-found, window-found, past-position}
 use Rattle.cut_core.proofs.agreed.Agreed.window_at.Goals as goal
 
 pub returns-then-position-covered-clause-window : goal.returns-then-position-covered-clause-window
@@ -16,3 +16,8 @@ pub returns-clause-window : goal.returns-clause-window
 returns-clause-window c =
     let within : c.args.position < length c.args.self.now.covered = omega (arith, c.covered.ensures.covered) in
     (within, window-found c.self.inside c.args.self.now c.args.position c.count_to_position-over.result c.deref.result.now c.deref-2.result.now c.window_from.result.now c.self.view_is c.self.invariant within c.deref.ensures.value c.deref-2.ensures.value c.count_to_position-over.ensures.bound c.count_to_position-over.ensures.point c.window_from.ensures)
+
+pub returns-then-position-base-clause-window : goal.returns-then-position-base-clause-window
+returns-then-position-base-clause-window c =
+    let within : c.args.position < length c.args.self.now.covered = omega (arith, c.covered.ensures.covered) in
+    (within, current-found c.self.inside c.args.self.now c.args.position c.self.view_is c.self.invariant within (omega (arith, c.base.ensures.base)))

@@ -5,4 +5,4 @@ use Rattle.fix_ante.proofs.WindowLemmas.{IsWindow-spots}
 use Rattle.fix_ante.proofs.window.Window.spots.Goals as goal
 
 pub returns-clause-each : goal.returns-clause-each
-returns-clause-each c = subst (λ (w : Window). All (IsSpot w.base) w.spots) c.self.view_is (IsWindow-spots _ c.self.invariant)
+returns-clause-each c = subst (λ (w : Window). All (IsSpot w.base) w.spots) c.self.view_is (IsWindow-spots _ c.self.invariant.valid)

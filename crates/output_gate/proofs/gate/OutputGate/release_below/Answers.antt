@@ -6,7 +6,7 @@ use Rattle.output_gate.proofs.gate.OutputGate.release_below.Goals as goal
 pub push-requires : goal.push-requires
 push-requires c =
     let t = c.in-Some.ensures in
-    (room-taken c.args.position c.in-Some.kept c.loop-kept.self c.take_oldest.new.self c.loop-kept.into t.0 t.1 c.loop-kept.invariant.room).0
+    (lit< tt, (room-taken c.args.position c.in-Some.kept c.loop-kept.self c.take_oldest.new.self c.loop-kept.into t.0 t.1 c.loop-kept.invariant.room).0)
 
 pub loop-kept-preserved : goal.loop-kept-preserved
 loop-kept-preserved c =

@@ -1,4 +1,4 @@
--- Decimals in a body: their form, and the number that they spell.
+-- Decimals in a body or a script: their form, and the number that they spell.
 use Rattle.std.specs.Prelude.{ℕ, Bool, ◌&&◌, nat_le, List, length, Option, Some, None, if◌then◌else◌}
 use Rattle.std.specs.Str.{all_ascii_digits}
 use Rattle.std.specs.Str.Parse.{digits_value}
