@@ -1,175 +1,194 @@
 //! What messages say, in short.
 
 ghost use Rattle.std.specs.Prelude.{IfOk};
-ghost use Rattle.record_codec.specs.Entries.{IsValidEntry};
-ghost use Rattle.msg_wire.specs.Valid.{IsValidReport, IsValidWhat};
+ghost use Rattle.quota_table.specs.Entries.{IsValidEntry};
+ghost use Rattle.record_codec.specs.Records.{IsValidRecord};
+ghost use Rattle.msg_wire.specs.Valid.{IsPlace, IsValidReport, IsValidWhat};
 
-use crate::comes::{Comes, Value};
+use crate::words::{body, first, place, round, shard, small, two_places, two_small, window};
 use msg_wire::What;
-use quota_table::{Asked, Entry, check};
-use record_codec::{Body, Record};
+use quota_table::Entry;
+use record_codec::Record;
 use std::alloc::Global;
 use std::test::Fail;
 
-/// What a message says; no message is an error.
-pub fn said(alloc: Global, comes: &Comes) -> Result<What, Fail>
+/// What a message says: its kind, and its fields in their order; a record as its client, its number and its body. Errors: no kind of message,
+/// or a number out of range.
+pub fn said(alloc: Global, line: &str) -> Result<What, Fail>
     ensures { IfOk result IsValidWhat }
 {
-    match *comes {
-        Comes::Append(first, number, body) => append(alloc, first, number, body),
-        Comes::Replicate(local, number, body) => replicate(alloc, local, number, body),
-        Comes::Promise(slot, ballot, accepted) => promise(slot, ballot, accepted),
-        Comes::Accept(slot, ballot, value) => accept(slot, ballot, value),
-        Comes::Decided(slot, more, value) => decided(slot, more, value),
-        other => said_in_numbers(other),
+    let (kind, rest) = first(line);
+    match kind {
+        "append" => append(alloc, rest),
+        "replicate" => {
+            let (local, rec) = placed(alloc, rest)?;
+            Ok(What::Replicate { local, rec })
+        }
+        "deliver" => {
+            let (local, rec) = placed(alloc, rest)?;
+            Ok(What::Deliver { local, rec })
+        }
+        "accept" => accept(alloc, rest),
+        "decided" => decided(alloc, rest),
+        "promise" => promise(alloc, rest),
+        _ => said_in_numbers(kind, rest),
     }
 }
 
 /// What a message says that has numbers alone.
-fn said_in_numbers(comes: Comes) -> Result<What, Fail>
+fn said_in_numbers(kind: &str, rest: &str) -> Result<What, Fail>
     ensures { IfOk result IsValidWhat }
 {
-    match comes {
-        Comes::Ack(number, position) => Ok(What::Ack {
-            number: u64::from(number),
-            position: u64::from(position),
-        }),
-        Comes::AskFate(first, least) => Ok(What::AskFate {
-            first: u64::from(first),
-            least: u64::from(least),
-        }),
-        Comes::Fate(next) => Ok(What::Fate {
-            next: u64::from(next),
-        }),
-        Comes::Replicated(len) => Ok(What::Replicated {
-            len: u64::from(len),
-        }),
-        Comes::Report(len) => Ok(What::Report {
-            len: u64::from(len),
-        }),
-        Comes::Fill(wanted) => Ok(What::Fill {
-            wanted: u64::from(wanted),
-        }),
-        Comes::Fetch(local) => Ok(What::Fetch {
-            local: u64::from(local),
-        }),
-        Comes::Learn(slot) => Ok(What::Learn {
-            slot: u32::from(slot),
-        }),
-        Comes::Prepare(slot, ballot) => Ok(What::Prepare {
-            slot: u32::from(slot),
-            ballot: u32::from(ballot),
-        }),
-        Comes::Accepted(slot, ballot) => Ok(What::Accepted {
-            slot: u32::from(slot),
-            ballot: u32::from(ballot),
-        }),
+    match kind {
+        "prepare" | "accepted" | "learn" => said_of_slot(kind, rest),
+        "ack" | "ask" => said_of_two(kind, rest),
+        _ => said_of_one(kind, place(rest)?),
+    }
+}
+
+fn said_of_slot(kind: &str, rest: &str) -> Result<What, Fail>
+    ensures { IfOk result IsValidWhat }
+{
+    if kind == "learn" {
+        return Ok(What::Learn { slot: small(rest)? });
+    }
+    let (slot, ballot, _) = two_small(rest)?;
+    if kind == "prepare" {
+        return Ok(What::Prepare { slot, ballot });
+    }
+    Ok(What::Accepted { slot, ballot })
+}
+
+fn said_of_two(kind: &str, rest: &str) -> Result<What, Fail>
+    ensures { IfOk result IsValidWhat }
+{
+    let (one, other, _) = two_places(rest)?;
+    if kind == "ack" {
+        return Ok(What::Ack {
+            number: one,
+            position: other,
+        });
+    }
+    Ok(What::AskFate {
+        first: one,
+        least: other,
+    })
+}
+
+fn said_of_one(kind: &str, place: u64) -> Result<What, Fail>
+    requires { IsPlace place }
+    ensures { IfOk result IsValidWhat }
+{
+    match kind {
+        "fate" => Ok(What::Fate { next: place }),
+        "replicated" => Ok(What::Replicated { len: place }),
+        "report" => Ok(What::Report { len: place }),
+        "fill" => Ok(What::Fill { wanted: place }),
+        "fetch" => Ok(What::Fetch { local: place }),
         _ => Err("no message".into()),
     }
 }
 
-fn append(alloc: Global, first: u32, number: u32, body: &[u8]) -> Result<What, Fail>
+fn append(alloc: Global, line: &str) -> Result<What, Fail>
     ensures { IfOk result IsValidWhat }
 {
-    let body = Body::new(alloc, body)?;
-    let _len = body.len();
+    let (first, number, text) = two_places(line)?;
+    let body = body(alloc, text)?;
     Ok(What::Append {
-        first: u64::from(first),
-        number: u64::from(number),
+        first,
+        number,
         body,
     })
 }
 
-fn replicate(alloc: Global, local: u32, number: u32, body: &[u8]) -> Result<What, Fail>
-    ensures { IfOk result IsValidWhat }
+/// A local, and a client's record there.
+fn placed(alloc: Global, line: &str) -> Result<(u64, Record), Fail>
+    ensures { IfOk result (λ found. IsPlace found.0 × IsValidRecord found.1) }
 {
-    let body = Body::new(alloc, body)?;
-    let _len = body.len();
+    let (local, rest) = first(line);
+    let (client, rest) = first(rest);
+    let (number, text) = first(rest);
     let rec = Record::Data {
-        client: 0,
-        number: u64::from(number),
-        body,
+        client: u32::from(shard(client)?),
+        number: place(number)?,
+        body: body(alloc, text)?,
     };
-    Ok(What::Replicate {
-        local: u64::from(local),
-        rec,
-    })
+    Ok((place(local)?, rec))
 }
 
-fn promise(slot: u16, ballot: u16, accepted: Option<(u16, Value)>) -> Result<What, Fail>
+fn accept(alloc: Global, line: &str) -> Result<What, Fail>
     ensures { IfOk result IsValidWhat }
 {
-    Ok(What::Promise {
-        slot: u32::from(slot),
-        ballot: u32::from(ballot),
-        accepted: report(accepted)?,
+    let (slot, ballot, rest) = two_small(line)?;
+    let entry = entry(alloc, rest)?;
+    Ok(What::Accept {
+        slot,
+        ballot,
+        entry,
     })
 }
 
-fn report(accepted: Option<(u16, Value)>) -> Result<Option<(u32, Entry)>, Fail>
+fn decided(alloc: Global, line: &str) -> Result<What, Fail>
+    ensures { IfOk result IsValidWhat }
+{
+    let (slot, count, rest) = two_small(line)?;
+    if count == 0 {
+        return Err("no count".into());
+    }
+    let entry = entry(alloc, rest)?;
+    Ok(What::Decided { slot, count, entry })
+}
+
+fn promise(alloc: Global, line: &str) -> Result<What, Fail>
+    ensures { IfOk result IsValidWhat }
+{
+    let (slot, ballot, rest) = two_small(line)?;
+    let accepted = report(alloc, rest)?;
+    Ok(What::Promise {
+        slot,
+        ballot,
+        accepted,
+    })
+}
+
+/// The ballot and the entry that a promise reports, if any.
+fn report(alloc: Global, line: &str) -> Result<Option<(u32, Entry)>, Fail>
     ensures { IfOk result IsValidReport }
 {
-    match accepted {
-        Some((ballot, value)) => Ok(Some((u32::from(ballot), entry(value)?))),
-        None => Ok(None),
+    if line.is_empty() {
+        return Ok(None);
     }
+    let (ballot, rest) = first(line);
+    Ok(Some((small(ballot)?, entry(alloc, rest)?)))
 }
 
-fn accept(slot: u16, ballot: u16, value: Value) -> Result<What, Fail>
-    ensures { IfOk result IsValidWhat }
-{
-    Ok(What::Accept {
-        slot: u32::from(slot),
-        ballot: u32::from(ballot),
-        entry: entry(value)?,
-    })
-}
-
-fn decided(slot: u16, more: u16, value: Value) -> Result<What, Fail>
-    ensures { IfOk result IsValidWhat }
-{
-    Ok(What::Decided {
-        slot: u32::from(slot),
-        count: u32::from(slot) + 1 + u32::from(more),
-        entry: entry(value)?,
-    })
-}
-
-fn entry(value: Value) -> Result<Entry, Fail>
+/// An entry as a report has it: `nothing`, `cut WINDOW ROUND`, `remove WINDOW SHARD`, `table AFTER ROUNDS SHARD:QUOTA ..`.
+fn entry(alloc: Global, line: &str) -> Result<Entry, Fail>
     ensures { IfOk result IsValidEntry }
 {
-    match value {
-        Value::Nothing => Ok(Entry::Nothing),
-        Value::Cut(window, round) => Ok(Entry::Cut {
-            window: u32::from(window),
-            round: u16::from(round),
+    let (kind, rest) = first(line);
+    if kind == "nothing" {
+        return Ok(Entry::Nothing);
+    }
+    let (number, rest) = first(rest);
+    let number = small(number)?;
+    match kind {
+        "cut" => Ok(Entry::Cut {
+            window: number,
+            round: round(rest)?,
         }),
-        Value::Grant(after, rounds, rows) => grant(after, rounds, rows),
-        Value::Removal(window, shard) => removal(window, shard),
+        "remove" => Ok(Entry::Remove {
+            window: number,
+            shard: shard(rest)?,
+        }),
+        "table" => {
+            let (rounds, rows) = window(alloc, rest)?;
+            Ok(Entry::Table {
+                after: number,
+                rounds,
+                rows,
+            })
+        }
+        _ => Err("no entry".into()),
     }
-}
-
-fn grant(after: u16, rounds: u8, rows: &[Asked]) -> Result<Entry, Fail>
-    ensures { IfOk result IsValidEntry }
-{
-    if rounds == 0 {
-        return Err("no rounds".into());
-    }
-    Ok(Entry::Table {
-        after: u32::from(after),
-        rounds: u16::from(rounds),
-        rows: check(rows)?,
-    })
-}
-
-fn removal(window: u16, shard: u8) -> Result<Entry, Fail>
-    ensures { IfOk result IsValidEntry }
-{
-    if shard > 5 {
-        return Err("no shard".into());
-    }
-    Ok(Entry::Remove {
-        window: u32::from(window),
-        shard,
-    })
 }

@@ -3,7 +3,8 @@ use Rattle.std.proofs.Common.{◌≡◌, ℕ, ◌+◌, ◌^◌, ◌<◌, ◌≤�
 use Rattle.std.proofs.lemmas.Bool.{eqb-true, eqb-false}
 use Rattle.quota_table.specs.Rows.{IsTable}
 use Rattle.record_codec.specs.Fields.{two, four}
-use Rattle.record_codec.specs.Entries.{IsValidEntry, rows_spelling, entry_spelling}
+use Rattle.record_codec.specs.Entries.{rows_spelling, entry_spelling}
+use Rattle.quota_table.specs.Entries.{IsValidEntry}
 use Rattle.record_codec.specs.Reading.{◌>>=◌, two_of, three_of}
 use Rattle.record_codec.proofs.Reading.{Takes, Reads, single, then_reads, give_reads, two_takes, two_reads, three_takes, three_reads}
 use Rattle.msg_wire.specs.declared.errors.WireError.TheVariants.{Short}

@@ -2,12 +2,13 @@
 use Rattle.std.proofs.Common.{◌≡◌, ℕ, zero, suc, ◌+◌, ◌-◌, ◌^◌, ◌<◌, ◌≤◌, Bool, true, false, cond, eqb, ltb, List, [], ◌∷◌, ◌++◌, length, drop, Result, Ok, Err, ◌⊎◌, inl, inr, refl, sym, ap, subst, ◌∙◌, append_assoc, arith}
 use Rattle.std.specs.Prelude.{IfOk}
 use Rattle.std.proofs.lemmas.Bool.{eqb-true, eqb-false, ltb-true, ltb-false, le-ltb, lt-ltb}
-use Rattle.std.proofs.lemmas.List.{append-nil, append_cancel_left, drop_all, length-append, length-drop}
+use Rattle.std.proofs.lemmas.List.{append-nil, drop_all, length-append, length-drop}
 use Rattle.record_codec.specs.Fields.{four, eight, sized}
 use Rattle.record_codec.specs.Records.{IsValidRecord, record_spelling}
-use Rattle.record_codec.specs.Entries.{IsValidEntry, entry_spelling}
+use Rattle.record_codec.specs.Entries.{entry_spelling}
+use Rattle.quota_table.specs.Entries.{IsValidEntry}
 use Rattle.record_codec.specs.Reading.{Reader, ◌>>=◌, announced, one, two_of, three_of}
-use Rattle.record_codec.proofs.Reading.{IsBytes, bind_ok, chosen, done, Took, Takes, Reads, single, drop_past, then_reads, give_reads, announced_takes, announced_reads, one_takes, one_reads, two_takes, two_reads, three_takes, three_reads, one_value}
+use Rattle.record_codec.proofs.Reading.{IsBytes, bind_ok, chosen, done, Took, Takes, Reads, single, drop_past, then_reads, give_reads, announced_takes, announced_reads, one_takes, one_reads, two_takes, two_reads, three_takes, three_reads, apart}
 use Rattle.msg_wire.specs.declared.errors.WireError.{WireError}
 use Rattle.msg_wire.specs.declared.errors.WireError.TheVariants.{Short}
 use Rattle.msg_wire.specs.Names.{Entry, Record, Item}
@@ -113,19 +114,23 @@ item_advances bytes at item after fits e =
     let t = item_takes.took bytes at (item, after) fits e in
     omega (arith, t.0.place)
 
-items_step : (total count at : ℕ) (items : List Item) (bytes : List ℕ) → total < length bytes → total ≤ at → at < length bytes → items_from (length bytes - total) items bytes at ≡ (item_at bytes at >>= λ item. items_from (length bytes - (total + 1)) (items ++ item.0 ∷ []) bytes item.1)
+items_step : (total count at : ℕ) (items : List Item) (bytes : List ℕ) → total < length bytes → total ≤ at → at < length bytes
+    → items_from (length bytes - total) items bytes at ≡ (item_at bytes at >>= λ item. items_from (length bytes - (total + 1)) (items ++ item.0 ∷ []) bytes item.1)
 unfolding items_from
 items_step total count at items bytes lt le here =
     let k : length bytes - total ≡ suc (length bytes - (total + 1)) = omega arith in
     let within : ltb at (length bytes) ≡ true = lt-ltb at (length bytes) here in
     rw (k, within) refl
 
-pub items_go_on : (at : ℕ) (items : List Item) (bytes : List ℕ) (item : Item) (after : ℕ) (all : Result (List Item) WireError) → length items ≤ at → at < length bytes → item_at bytes at ≡ Ok (item, after) → items_from (length bytes - length items) items bytes at ≡ all → items_from (length bytes - length (items ++ item ∷ [])) (items ++ item ∷ []) bytes after ≡ all
+pub items_go_on : (at : ℕ) (items : List Item) (bytes : List ℕ) (item : Item) (after : ℕ) (all : Result (List Item) WireError) → length items ≤ at
+    → at < length bytes → item_at bytes at ≡ Ok (item, after) → items_from (length bytes - length items) items bytes at ≡ all
+    → items_from (length bytes - length (items ++ item ∷ [])) (items ++ item ∷ []) bytes after ≡ all
 items_go_on at items bytes item after all le here h so_far =
     let size : length (items ++ item ∷ []) ≡ length items + 1 = length-append items (item ∷ []) in
     rw size (sym (ap (λ x. x >>= λ i. items_from (length bytes - (length items + 1)) (items ++ i.0 ∷ []) bytes i.1) h) ∙ sym (items_step (length items) 0 at items bytes (omega arith) le here) ∙ so_far)
 
-pub items_fail : (e : WireError) (at : ℕ) (items : List Item) (bytes : List ℕ) (all : Result (List Item) WireError) → length items ≤ at → at < length bytes → Fails e (item_at bytes at) → items_from (length bytes - length items) items bytes at ≡ all → Fails e all
+pub items_fail : (e : WireError) (at : ℕ) (items : List Item) (bytes : List ℕ) (all : Result (List Item) WireError) → length items ≤ at → at < length bytes
+    → Fails e (item_at bytes at) → items_from (length bytes - length items) items bytes at ≡ all → Fails e all
 items_fail e at items bytes all le here h so_far =
     subst (Fails e) (sym (items_step (length items) 0 at items bytes (omega arith) le here) ∙ so_far) (fails_then e (item_at bytes at) (λ i. items_from (length bytes - (length items + 1)) (items ++ i.0 ∷ []) bytes i.1) h)
 
@@ -134,7 +139,8 @@ unfolding items_from
 items_over zero at items bytes le = refl
 items_over (suc count) at items bytes le = let past : ltb at (length bytes) ≡ false = le-ltb at (length bytes) le in rw past refl
 
-pub items_done : (at : ℕ) (items : List Item) (bytes : List ℕ) (all : Result (List Item) WireError) → length bytes ≤ at → items_from (length bytes - length items) items bytes at ≡ all → all ≡ Ok items
+pub items_done : (at : ℕ) (items : List Item) (bytes : List ℕ) (all : Result (List Item) WireError) → length bytes ≤ at
+    → items_from (length bytes - length items) items bytes at ≡ all → all ≡ Ok items
 items_done at items bytes all le so_far = sym so_far ∙ items_over (length bytes - length items) at items bytes le
 
 -- ---- all of the bytes
@@ -148,7 +154,8 @@ record AreRead (bytes : List ℕ) (at : ℕ) (earlier all : List Item) : Type 0 
 same : (a b : List Item) → done WireError a ≡ done WireError b → a ≡ b
 same a b e = cc
 
-items_took : (count : ℕ) (earlier : List Item) (bytes : List ℕ) (at : ℕ) (all : List Item) → IsBytes bytes → length bytes ≤ at + count → items_from count earlier bytes at ≡ Ok all → AreRead bytes at earlier all
+items_took : (count : ℕ) (earlier : List Item) (bytes : List ℕ) (at : ℕ) (all : List Item) → IsBytes bytes → length bytes ≤ at + count
+    → items_from count earlier bytes at ≡ Ok all → AreRead bytes at earlier all
 unfolding items_from
 items_took zero earlier bytes at all fits enough e =
     subst (AreRead bytes at earlier) (same earlier all e) (record { more = []; text = drop_all at bytes (omega arith); whole = sym (append-nil earlier); valid = tt })
@@ -169,7 +176,8 @@ items_took (suc count) earlier bytes at all fits enough e =
           subst (AreRead bytes at earlier) (same earlier all h.1) (record { more = []; text = drop_all at bytes past; whole = sym (append-nil earlier); valid = tt })
     ]
 
-items_again : (more earlier : List Item) (count : ℕ) (bytes : List ℕ) (at : ℕ) → AreValidItems more → length bytes ≤ at + count → drop at bytes ≡ items_spelling more → items_from count earlier bytes at ≡ Ok (earlier ++ more)
+items_again : (more earlier : List Item) (count : ℕ) (bytes : List ℕ) (at : ℕ) → AreValidItems more → length bytes ≤ at + count
+    → drop at bytes ≡ items_spelling more → items_from count earlier bytes at ≡ Ok (earlier ++ more)
 unfolding items_from
 items_again [] earlier count bytes at valid enough e =
     let size : length (drop at bytes) ≡ 0 = ap length e in
@@ -184,7 +192,8 @@ items_again (item ∷ more) earlier (suc count) bytes at valid enough e =
     let rest = items_again more (earlier ++ item ∷ []) count bytes (at + length (item_spelling item)) valid.1 (omega arith) (drop_past bytes at (item_spelling item) (items_spelling more) e) in
     rw (within, first) (rest ∙ ap (λ (all : List Item). Ok all) (append_assoc earlier (item ∷ []) more))
 
-pub items_found : (bytes : List ℕ) (result : Result (List Item) WireError) → IsBytes bytes → Gives result (whole_items bytes) → IfOk result (λ all. AreValidItems all × (1 ≤ length all) × (bytes ≡ items_spelling all))
+pub items_found : (bytes : List ℕ) (result : Result (List Item) WireError) → IsBytes bytes → Gives result (whole_items bytes)
+    → IfOk result (λ all. AreValidItems all × (1 ≤ length all) × (bytes ≡ items_spelling all))
 unfolding whole_items
 items_found bytes (Ok all) fits e =
     let b = bind_ok (item_at bytes 0) (λ first. items_from (length bytes - 1) (first.0 ∷ []) bytes first.1) all e in
@@ -194,7 +203,8 @@ items_found bytes (Ok all) fits e =
     subst (λ (is : List Item). AreValidItems is × (1 ≤ length is) × (bytes ≡ items_spelling is)) (sym o.whole) ((t.1, o.valid), omega arith, whole)
 items_found bytes (Err e) fits h = tt
 
-pub items_only : (bytes : List ℕ) (result : Result (List Item) WireError) → Gives result (whole_items bytes) → (all : List Item) → AreValidItems all → 1 ≤ length all → bytes ≡ items_spelling all → Gives result (Ok all)
+pub items_only : (bytes : List ℕ) (result : Result (List Item) WireError) → Gives result (whole_items bytes) → (all : List Item) → AreValidItems all
+    → 1 ≤ length all → bytes ≡ items_spelling all → Gives result (Ok all)
 unfolding whole_items
 items_only bytes result given [] valid some e = absurd (omega arith)
 items_only bytes result given (item ∷ more) valid some e =
@@ -206,13 +216,7 @@ items_only bytes result given (item ∷ more) valid some e =
 -- ---- for the laws
 
 pub items_apart : (a b : Item) (x y : List ℕ) → IsValidItem a → IsValidItem b → item_spelling a ++ x ≡ item_spelling b ++ y → (a ≡ b) × (x ≡ y)
-items_apart a b x y va vb e =
-    let same = one_value Short item_at a b (item_spelling a) (item_spelling b) x y (item_reads a va) (item_reads b vb) e in
-    let e1 : item_spelling b ++ x ≡ item_spelling b ++ y = ap (λ (i : Item). item_spelling i ++ x) (sym same.0) ∙ e in
-    (same.0, append_cancel_left (item_spelling b) x y e1)
+items_apart a b x y va vb e = apart Short item_at item_spelling a b x y (item_reads a va) (item_reads b vb) e
 
 pub entries_apart : (a b : Entry) (x y : List ℕ) → IsValidEntry a → IsValidEntry b → entry_spelling a ++ x ≡ entry_spelling b ++ y → (a ≡ b) × (x ≡ y)
-entries_apart a b x y va vb e =
-    let same = one_value Short entry_at a b (entry_spelling a) (entry_spelling b) x y (entry_reads a va) (entry_reads b vb) e in
-    let e1 : entry_spelling b ++ x ≡ entry_spelling b ++ y = ap (λ (i : Entry). entry_spelling i ++ x) (sym same.0) ∙ e in
-    (same.0, append_cancel_left (entry_spelling b) x y e1)
+entries_apart a b x y va vb e = apart Short entry_at entry_spelling a b x y (entry_reads a va) (entry_reads b vb) e

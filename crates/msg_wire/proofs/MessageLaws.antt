@@ -2,12 +2,13 @@
 use Rattle.std.proofs.Common.{◌≡◌, ℕ, ◌+◌, ◌^◌, ◌<◌, ◌≤◌, Bool, true, false, cond, eqb, ltb, List, [], ◌∷◌, ◌++◌, length, drop, Option, Some, None, Result, Ok, Err, refl, sym, ap, subst, ◌∙◌, append_assoc, arith}
 use Rattle.std.specs.Prelude.{IfOk}
 use Rattle.std.proofs.lemmas.Bool.{eqb-true, eqb-false, ltb-true, ltb-false, le-ltb}
-use Rattle.std.proofs.lemmas.List.{append-nil, append_cancel_left, drop_all}
+use Rattle.std.proofs.lemmas.List.{append-nil, drop_all}
 use Rattle.record_codec.specs.Fields.{four, eight, sized}
 use Rattle.record_codec.specs.Records.{IsValidRecord, record_spelling}
-use Rattle.record_codec.specs.Entries.{IsValidEntry, entry_spelling}
+use Rattle.record_codec.specs.Entries.{entry_spelling}
+use Rattle.quota_table.specs.Entries.{IsValidEntry}
 use Rattle.record_codec.specs.Reading.{Reader, ◌>>=◌, one, two_of, three_of}
-use Rattle.record_codec.proofs.Reading.{IsBytes, bind_ok, guard_ok, Took, Takes, Reads, single, then_reads, give_reads, one_takes, one_reads, two_takes, two_reads, three_takes, three_reads, one_value}
+use Rattle.record_codec.proofs.Reading.{IsBytes, bind_ok, guard_ok, Took, Takes, Reads, single, then_reads, give_reads, one_takes, one_reads, two_takes, two_reads, three_takes, three_reads, apart}
 use Rattle.spec_base.specs.Spelling.{IsValidNode}
 use Rattle.msg_wire.specs.declared.errors.WireError.{WireError}
 use Rattle.msg_wire.specs.declared.errors.WireError.TheVariants.{Short, Trailing}
@@ -277,7 +278,8 @@ message_reads m v =
 
 -- ---- for decode
 
-pub message_found : (bytes : List ℕ) (result : Result Message WireError) → IsBytes bytes → Gives result (whole_message bytes) → IfOk result (λ m. IsValidMessage m × (bytes ≡ message_spelling m))
+pub message_found : (bytes : List ℕ) (result : Result Message WireError) → IsBytes bytes → Gives result (whole_message bytes)
+    → IfOk result (λ m. IsValidMessage m × (bytes ≡ message_spelling m))
 unfolding whole_message
 message_found bytes (Ok m) fits e =
     let b = bind_ok (message_at bytes 0) (λ x. cond (ltb x.1 (length bytes)) (Err (Trailing x.1)) (Ok x.0)) m e in
@@ -288,7 +290,8 @@ message_found bytes (Ok m) fits e =
     subst (λ (y : Message). IsValidMessage y × (bytes ≡ message_spelling y)) g.1 (t.1, whole)
 message_found bytes (Err e) fits h = tt
 
-pub message_only : (bytes : List ℕ) (result : Result Message WireError) → Gives result (whole_message bytes) → (m : Message) → IsValidMessage m → bytes ≡ message_spelling m → Gives result (Ok m)
+pub message_only : (bytes : List ℕ) (result : Result Message WireError) → Gives result (whole_message bytes) → (m : Message) → IsValidMessage m
+    → bytes ≡ message_spelling m → Gives result (Ok m)
 unfolding whole_message
 message_only bytes result given m valid e =
     let read = (message_reads m valid).again bytes 0 [] (e ∙ sym (append-nil (message_spelling m))) in
@@ -298,12 +301,11 @@ message_only bytes result given m valid e =
 
 -- ---- for the laws
 
-pub messages_apart : (a b : Message) (x y : List ℕ) → IsValidMessage a → IsValidMessage b → message_spelling a ++ x ≡ message_spelling b ++ y → (a ≡ b) × (x ≡ y)
-messages_apart a b x y va vb e =
-    let same = one_value Short message_at a b (message_spelling a) (message_spelling b) x y (message_reads a va) (message_reads b vb) e in
-    let e1 : message_spelling b ++ x ≡ message_spelling b ++ y = ap (λ (m : Message). message_spelling m ++ x) (sym same.0) ∙ e in
-    (same.0, append_cancel_left (message_spelling b) x y e1)
+pub messages_apart : (a b : Message) (x y : List ℕ) → IsValidMessage a → IsValidMessage b → message_spelling a ++ x ≡ message_spelling b ++ y
+    → (a ≡ b) × (x ≡ y)
+messages_apart a b x y va vb e = apart Short message_at message_spelling a b x y (message_reads a va) (message_reads b vb) e
 
-pub message_cut : (m : Message) (front more : List ℕ) → IsValidMessage m → front ++ more ≡ message_spelling m → 0 < length more → whole_message front ≡ Err Short
+pub message_cut : (m : Message) (front more : List ℕ) → IsValidMessage m → front ++ more ≡ message_spelling m → 0 < length more
+    → whole_message front ≡ Err Short
 unfolding whole_message
 message_cut m front more valid e some = rw ((message_reads m valid).cut front 0 more e some) refl

@@ -7,7 +7,8 @@ use Rattle.std.proofs.lemmas.List.{append-nil}
 use Rattle.quota_table.specs.Rows.{has_shard, is_row, is_distinct, IsTable}
 use Rattle.record_codec.specs.Fields.{two, four, eight, sized}
 use Rattle.record_codec.specs.Records.{IsValidRecord, record_spelling}
-use Rattle.record_codec.specs.Entries.{IsWindowNumber, AreRounds, IsValidEntry, rows_spelling, entry_spelling}
+use Rattle.record_codec.specs.Entries.{rows_spelling, entry_spelling}
+use Rattle.quota_table.specs.Entries.{IsWindowNumber, AreRounds, IsValidEntry}
 use Rattle.record_codec.specs.Reading.{Reader, ◌>>=◌, byte_at, two_at, four_at, eight_at, two_of, three_of}
 use Rattle.record_codec.proofs.Reading.{IsBytes, bind_ok, guard_ok, chosen, ok_is, Took, Took-then, Takes, Reads, single, twos, fours, eights, bytes_are_numbers, field_takes, field_reads, then_reads, give_reads, announced_takes, announced_reads, two_takes, two_reads, three_takes, three_reads}
 use Rattle.msg_wire.specs.declared.errors.WireError.{WireError}
@@ -76,7 +77,8 @@ window_reads n le = four_reads 0 1000000 n (omega arith) le (omega arith)
 
 -- ---- a choice among readers
 
-pub if_takes : {A E : Type 0} (b : Bool) (spell : A → List ℕ) (Valid : A → Type 0) (r s : Reader A E) → ((b ≡ true) → Takes spell Valid r) → ((b ≡ false) → Takes spell Valid s) → Takes spell Valid (λ bytes at. cond b (r bytes at) (s bytes at))
+pub if_takes : {A E : Type 0} (b : Bool) (spell : A → List ℕ) (Valid : A → Type 0) (r s : Reader A E) → ((b ≡ true) → Takes spell Valid r)
+    → ((b ≡ false) → Takes spell Valid s) → Takes spell Valid (λ bytes at. cond b (r bytes at) (s bytes at))
 if_takes true spell Valid r s p q = p refl
 if_takes false spell Valid r s p q = q refl
 
@@ -88,7 +90,9 @@ give_takes {A} {E} a spell Valid e valid = record {
 }
 
 -- behind a tag that says which reader follows
-pub tagged_takes : {A E : Type 0} (tag_of : A → ℕ) (spell fields : A → List ℕ) (Valid : A → Type 0) (In : ℕ → Type 0) (t : Reader ℕ E) (k : ℕ → Reader A E) → ((a : A) → spell a ≡ tag_of a ∷ fields a) → Takes single In t → ((n : ℕ) → In n → Takes fields (λ a. Valid a × (tag_of a ≡ n)) (k n)) → Takes spell Valid (λ bytes at. t bytes at >>= λ tag. k tag.0 bytes tag.1)
+pub tagged_takes : {A E : Type 0} (tag_of : A → ℕ) (spell fields : A → List ℕ) (Valid : A → Type 0) (In : ℕ → Type 0) (t : Reader ℕ E) (k : ℕ → Reader A E)
+    → ((a : A) → spell a ≡ tag_of a ∷ fields a) → Takes single In t → ((n : ℕ) → In n → Takes fields (λ a. Valid a × (tag_of a ≡ n)) (k n))
+    → Takes spell Valid (λ bytes at. t bytes at >>= λ tag. k tag.0 bytes tag.1)
 tagged_takes {A} {E} tag_of spell fields Valid In t k spelled p q = record {
   took = λ bytes at x fits e.
       let tag = bind_ok (t bytes at) (λ tag. k tag.0 bytes tag.1) x e in

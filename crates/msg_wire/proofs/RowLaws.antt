@@ -22,21 +22,25 @@ fails_then (BadField at) r f h = ap (λ x. x >>= f) h
 fails_then (Trailing at) r f h = ap (λ x. x >>= f) h
 fails_then OutOfMemory r f h = tt
 
-rows_step : (count i : ℕ) (rows : List Row) (bytes : List ℕ) (at : ℕ) → i < count → rows_at (count - i) rows bytes at ≡ (row_at rows bytes at >>= λ row. rows_at (count - (i + 1)) (rows ++ row.0 ∷ []) bytes row.1)
+rows_step : (count i : ℕ) (rows : List Row) (bytes : List ℕ) (at : ℕ) → i < count
+    → rows_at (count - i) rows bytes at ≡ (row_at rows bytes at >>= λ row. rows_at (count - (i + 1)) (rows ++ row.0 ∷ []) bytes row.1)
 unfolding rows_at
 rows_step count i rows bytes at lt =
     let k : count - i ≡ suc (count - (i + 1)) = omega arith in
     rw k refl
 
-pub rows_goes_on : (count i : ℕ) (rows : List Row) (bytes : List ℕ) (at : ℕ) (row : Row) (after : ℕ) (total : Result (List Row × ℕ) WireError) → i < count → row_at rows bytes at ≡ Ok (row, after) → rows_at (count - i) rows bytes at ≡ total → rows_at (count - (i + 1)) (rows ++ row ∷ []) bytes after ≡ total
+pub rows_goes_on : (count i : ℕ) (rows : List Row) (bytes : List ℕ) (at : ℕ) (row : Row) (after : ℕ) (total : Result (List Row × ℕ) WireError) → i < count
+    → row_at rows bytes at ≡ Ok (row, after) → rows_at (count - i) rows bytes at ≡ total → rows_at (count - (i + 1)) (rows ++ row ∷ []) bytes after ≡ total
 rows_goes_on count i rows bytes at row after total lt h so_far =
     sym (ap (λ x. x >>= λ row. rows_at (count - (i + 1)) (rows ++ row.0 ∷ []) bytes row.1) h) ∙ sym (rows_step count i rows bytes at lt) ∙ so_far
 
-pub rows_fail : (e : WireError) (count i : ℕ) (rows : List Row) (bytes : List ℕ) (at : ℕ) (total : Result (List Row × ℕ) WireError) → i < count → Fails e (row_at rows bytes at) → rows_at (count - i) rows bytes at ≡ total → Fails e total
+pub rows_fail : (e : WireError) (count i : ℕ) (rows : List Row) (bytes : List ℕ) (at : ℕ) (total : Result (List Row × ℕ) WireError) → i < count
+    → Fails e (row_at rows bytes at) → rows_at (count - i) rows bytes at ≡ total → Fails e total
 rows_fail e count i rows bytes at total lt h so_far =
     subst (Fails e) (sym (rows_step count i rows bytes at lt) ∙ so_far) (fails_then e (row_at rows bytes at) (λ row. rows_at (count - (i + 1)) (rows ++ row.0 ∷ []) bytes row.1) h)
 
-pub rows_done : (count i : ℕ) (rows : List Row) (bytes : List ℕ) (at : ℕ) (total : Result (List Row × ℕ) WireError) → count ≤ i → rows_at (count - i) rows bytes at ≡ total → total ≡ Ok (rows, at)
+pub rows_done : (count i : ℕ) (rows : List Row) (bytes : List ℕ) (at : ℕ) (total : Result (List Row × ℕ) WireError) → count ≤ i
+    → rows_at (count - i) rows bytes at ≡ total → total ≡ Ok (rows, at)
 unfolding rows_at
 rows_done count i rows bytes at total le so_far =
     let k : count - i ≡ 0 = omega arith in
@@ -123,7 +127,8 @@ record AreRead (bytes : List ℕ) (at : ℕ) (earlier : List Row) (count : ℕ) 
   rows : list_all is_row more ≡ true
   distinct : is_distinct x.0 ≡ true
 
-rows_took : (count : ℕ) (earlier : List Row) (bytes : List ℕ) (at : ℕ) (x : List Row × ℕ) → IsBytes bytes → is_distinct earlier ≡ true → rows_at count earlier bytes at ≡ Ok x → AreRead bytes at earlier count x
+rows_took : (count : ℕ) (earlier : List Row) (bytes : List ℕ) (at : ℕ) (x : List Row × ℕ) → IsBytes bytes → is_distinct earlier ≡ true
+    → rows_at count earlier bytes at ≡ Ok x → AreRead bytes at earlier count x
 unfolding rows_at
 rows_took zero earlier bytes at x fits d e =
     subst (AreRead bytes at earlier 0) (ok_is WireError (earlier, at) x e) (record { more = []; text = record { parts = refl; place = omega arith }; all = sym (append-nil earlier); size = refl; rows = refl; distinct = d })
@@ -143,7 +148,8 @@ rows_took (suc count) earlier bytes at x fits d e =
 abbrev pub counted_rows : List Row → List ℕ
 counted_rows rows = length rows ∷ rows_spelling rows
 
-pub rows_make_a_table : (count : ℕ) (bytes : List ℕ) (at : ℕ) (x : List Row × ℕ) → IsBytes bytes → 1 ≤ count → count ≤ 6 → rows_at count [] bytes at ≡ Ok x → IsTable x.0
+pub rows_make_a_table : (count : ℕ) (bytes : List ℕ) (at : ℕ) (x : List Row × ℕ) → IsBytes bytes → 1 ≤ count → count ≤ 6 → rows_at count [] bytes at ≡ Ok x
+    → IsTable x.0
 rows_make_a_table count bytes at x fits some few e =
     let r = rows_took count [] bytes at x fits refl e in
     record {
@@ -182,7 +188,8 @@ row_reads earlier row e fresh =
     let b = row_is row e in
     two_reads Short (fresh_at earlier) (byte_in 1 64) (λ shard quota. record { shard = shard; quota = quota }) row.shard row.quota (single row.shard) (single row.quota) (fresh_reads earlier row.shard b.0 fresh) (byte_reads 1 64 row.quota b.1 b.2 (omega arith))
 
-rows_read : (earlier more : List Row) → list_all is_row more ≡ true → is_distinct (earlier ++ more) ≡ true → Reads Short (earlier ++ more) (rows_spelling more) (rows_at (length more) earlier)
+rows_read : (earlier more : List Row) → list_all is_row more ≡ true → is_distinct (earlier ++ more) ≡ true
+    → Reads Short (earlier ++ more) (rows_spelling more) (rows_at (length more) earlier)
 unfolding rows_at
 rows_read earlier [] rows d = subst (λ (all : List Row). Reads Short all [] (rows_at 0 earlier)) (sym (append-nil earlier)) (give_reads Short earlier)
 rows_read earlier (row ∷ more) rows d =

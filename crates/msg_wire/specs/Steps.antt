@@ -1,10 +1,14 @@
 -- What a step may take at a node, and what is said of all that a step gives.
-use Rattle.std.specs.Prelude.{ℕ, ◌≤◌, List, length, IsTrue}
+use Rattle.std.specs.Prelude.{ℕ, ◌≤◌, List, [], length, IsTrue}
 use Rattle.std.specs.List.{AllByRecursion}
 use Rattle.msg_wire.specs.Names.{NodeId, Message, Item, Event, Step}
 use Rattle.msg_wire.specs.Names.events
 use Rattle.msg_wire.specs.Nodes.{is_client, is_sequencer}
 use Rattle.msg_wire.specs.Valid.{IsValidMessage, AreValidItems}
+
+-- a step that gives nothing
+abbrev pub empty_step : Step
+empty_step = record { stable = []; sends = []; marks = [] }
 
 -- a body is given to clients alone, a command to sequencers alone
 abbrev pub IsEventAt : NodeId → Event → Type 0

@@ -3,7 +3,7 @@ use Rattle.std.specs.Prelude.{◌≡◌, ◌⊎◌, ℕ, ◌+◌, ◌*◌, ◌�
 use Rattle.std.specs.List.{AllByRecursion}
 use Rattle.quota_table.specs.Rows.{IsTable, has_shard}
 use Rattle.record_codec.specs.Records.{IsValidRecord}
-use Rattle.record_codec.specs.Entries.{IsValidEntry, AreRounds}
+use Rattle.quota_table.specs.Entries.{IsValidEntry, AreRounds}
 use Rattle.spec_base.specs.Spelling.{IsValidNode}
 use Rattle.msg_wire.specs.Names.{Row, Entry, NodeId, Message, What, Item, Event, Command, Config, Plan, PlanLine}
 use Rattle.msg_wire.specs.Names.nodes

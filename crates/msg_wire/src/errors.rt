@@ -1,4 +1,3 @@
-use quota_table::OutOfMemory;
 use thiserror::Error;
 
 /// Why bytes are no message, or no items: the first fault from the left. Places are counted in bytes, from 0.
@@ -18,15 +17,4 @@ pub enum WireError {
     Trailing { at: usize },
     #[error("out of memory")]
     OutOfMemory,
-}
-
-impl From<OutOfMemory> for WireError {
-    ghost use Rattle.std.specs.Prelude.{◌≡◌};
-    ghost use Rattle.msg_wire.specs.declared.errors.WireError.TheVariants.{OutOfMemory as wire_out_of_memory};
-
-    ghost from_gives = { λ _ e. e ≡ wire_out_of_memory };
-
-    fn from(_: OutOfMemory) -> WireError {
-        WireError::OutOfMemory
-    }
 }

@@ -1,6 +1,7 @@
 //! Items, read one after the other from the left.
 
-ghost use Rattle.std.specs.Prelude.{◌≡◌, ◌≤◌, ◌-◌, List, length, IfOk, Ok};
+ghost use Rattle.std.specs.Prelude.{◌≡◌, ◌≤◌, ◌-◌, ◌++◌, ◌∷◌, [], List, length, IfOk, IfErr, OnOk, Ok};
+ghost use Rattle.msg_wire.specs.declared.errors.WireError.TheVariants.{OutOfMemory};
 ghost use Rattle.msg_wire.specs.declared.item.Item.{Item};
 ghost use Rattle.msg_wire.specs.Items.{items_spelling};
 ghost use Rattle.msg_wire.specs.Valid.{AreValidItems};
@@ -11,6 +12,7 @@ use crate::item::{Item, Items};
 use crate::numbers::{ballot_at, byte_in, kind_in, place_at, slot_at};
 use crate::parts::{body_at, entry_at, record_at};
 use record_codec::Output;
+use record_codec::fields::piece_at;
 use std::alloc::Global;
 
 /// Reads the items that the bytes spell, all of them; there is at least one. At an error other than `OutOfMemory` the
@@ -32,7 +34,7 @@ fn whole_items(alloc: Global, bytes: &[u8]) -> Result<Items, WireError>
 {
     let (first, at) = item_at(alloc, bytes, 0)?;
     let mut items = Items::new(alloc);
-    items.push(first)?;
+    keep(&mut items, first)?;
     items_from(alloc, items, bytes, at)
 }
 
@@ -45,10 +47,18 @@ fn items_from(alloc: Global, earlier: Items, bytes: &[u8], start: usize) -> Resu
     let mut at = start;
     while at < bytes.len() {
         let (item, after) = item_at(alloc, bytes, at)?;
-        items.push(item)?;
+        keep(&mut items, item)?;
         at = after;
     }
     Ok(items)
+}
+
+/// Puts one item at the end.
+fn keep(items: &mut Items, item: Item) -> Result<(), WireError>
+    ensures ok { OnOk result (items.new ≡ items.old ++ item ∷ []) }
+    ensures no_memory { IfErr result (λ e. e ≡ OutOfMemory) }
+{
+    items.push(item).map_err(|_| WireError::OutOfMemory)
 }
 
 #[tactic(auto, unfolding(crate::specs::Decoding::item_at))]
@@ -139,12 +149,8 @@ fn output_at(bytes: &[u8], at: usize) -> Result<(Output, usize), WireError>
     ensures { Gives result (output_at bytes.now at) }
 {
     let (len, at) = byte_in(bytes, at, 0, 64)?;
-    let len = usize::from(len);
-    if bytes.len().saturating_sub(at) < len {
-        return Err(WireError::Short);
-    }
-    let (text, _) = bytes[at..].split_at(len);
+    let (text, at) = piece_at(bytes, at, usize::from(len)).ok_or(WireError::Short)?;
     let mut output = Output::new();
     output.extend_from_slice(text);
-    Ok((output, at + len))
+    Ok((output, at))
 }

@@ -1,7 +1,8 @@
 //! What holds of all spellings, as calls that do nothing.
 
 ghost use Rattle.std.specs.Prelude.{◌≡◌, ◌<◌, ◌++◌, ℕ, List, length, Err};
-ghost use Rattle.record_codec.specs.Entries.{IsValidEntry, entry_spelling};
+ghost use Rattle.record_codec.specs.Entries.{entry_spelling};
+ghost use Rattle.quota_table.specs.Entries.{IsValidEntry};
 ghost use Rattle.msg_wire.specs.Names.{Entry, Item, Message};
 ghost use Rattle.msg_wire.specs.Valid.{IsValidItem, IsValidMessage};
 ghost use Rattle.msg_wire.specs.Messages.{message_spelling};

@@ -1,6 +1,9 @@
+ghost use Rattle.std.specs.Prelude.{◌≡◌};
+
 use quota_table::{Entry, Listed};
 use record_codec::{Body, Record};
 use spec_base::NodeId;
+use std::alloc::AllocError;
 
 /// Messages in the order in which they were sent.
 pub type Messages = Listed<Message>;
@@ -15,7 +18,7 @@ pub struct Message {
 
 /// What a message says. Slots are below 1,000,000 and ballots below 2^31; locals, numbers, lengths and positions are
 /// at most 2^48. Each kind names who sends it to whom.
-#[derive(Clone, Debug, Drop, PartialEq)]
+#[derive(Debug, Drop, PartialEq)]
 pub enum What {
     /// A client to its home's primary: take this body.
     Append {
@@ -110,4 +113,78 @@ pub enum What {
     Learn {
         slot: u32,
     },
+}
+
+// Written out so that it can be marked: where a node sends what it has just made, its kind is known, and a clone is then
+// a few moves.
+impl Clone for What {
+    ghost is_clone = { λ a b. b ≡ a };
+
+    #[inline(always)]
+    fn clone(&self) -> Result<What, AllocError> {
+        Ok(match self {
+            What::Append {
+                first,
+                number,
+                body,
+            } => What::Append {
+                first: *first,
+                number: *number,
+                body: body.clone()?,
+            },
+            What::Ack { number, position } => What::Ack {
+                number: *number,
+                position: *position,
+            },
+            What::AskFate { first, least } => What::AskFate {
+                first: *first,
+                least: *least,
+            },
+            What::Fate { next } => What::Fate { next: *next },
+            What::Replicate { local, rec } => What::Replicate {
+                local: *local,
+                rec: rec.clone()?,
+            },
+            What::Replicated { len } => What::Replicated { len: *len },
+            What::Report { len } => What::Report { len: *len },
+            What::Fill { wanted } => What::Fill { wanted: *wanted },
+            What::Deliver { local, rec } => What::Deliver {
+                local: *local,
+                rec: rec.clone()?,
+            },
+            What::Fetch { local } => What::Fetch { local: *local },
+            What::Prepare { slot, ballot } => What::Prepare {
+                slot: *slot,
+                ballot: *ballot,
+            },
+            What::Promise {
+                slot,
+                ballot,
+                accepted,
+            } => What::Promise {
+                slot: *slot,
+                ballot: *ballot,
+                accepted: accepted.clone()?,
+            },
+            What::Accept {
+                slot,
+                ballot,
+                entry,
+            } => What::Accept {
+                slot: *slot,
+                ballot: *ballot,
+                entry: entry.clone()?,
+            },
+            What::Accepted { slot, ballot } => What::Accepted {
+                slot: *slot,
+                ballot: *ballot,
+            },
+            What::Decided { slot, count, entry } => What::Decided {
+                slot: *slot,
+                count: *count,
+                entry: entry.clone()?,
+            },
+            What::Learn { slot } => What::Learn { slot: *slot },
+        })
+    }
 }

@@ -8,6 +8,7 @@ use crate::errors::WireError;
 use crate::numbers::{byte_in, four_in, place_at, two_in};
 use arrayvec::ArrayVec;
 use quota_table::{Entry, Row, Table};
+use record_codec::fields::piece_at;
 use record_codec::{Body, Record};
 use std::alloc::Global;
 
@@ -17,12 +18,9 @@ pub(crate) fn body_at(alloc: Global, bytes: &[u8], at: usize) -> Result<(Body, u
     ensures { Gives result (body_at bytes.now at) }
 {
     let (len, at) = two_in(bytes, at, 0, 1024)?;
-    let len = usize::from(len);
-    if bytes.len().saturating_sub(at) < len {
-        return Err(WireError::Short);
-    }
-    let (body, _) = bytes[at..].split_at(len);
-    Ok((Body::of(alloc, body)?, at + len))
+    let (body, at) = piece_at(bytes, at, usize::from(len)).ok_or(WireError::Short)?;
+    let body = Body::of(alloc, body).map_err(|_| WireError::OutOfMemory)?;
+    Ok((body, at))
 }
 
 #[tactic(auto, unfolding(crate::specs::Decoding::record_at))]
@@ -47,14 +45,7 @@ fn record_of(alloc: Global, tag: u8, bytes: &[u8], at: usize) -> Result<(Record,
     let (client, at) = four_in(bytes, at, 0, 5)?;
     let (number, at) = place_at(bytes, at)?;
     let (body, at) = body_at(alloc, bytes, at)?;
-    Ok((
-        Record::Data {
-            client,
-            number,
-            body,
-        },
-        at,
-    ))
+    Ok((Record::data(client, number, body), at))
 }
 
 #[tactic(auto, unfolding(crate::specs::Decoding::entry_at))]

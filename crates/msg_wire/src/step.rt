@@ -1,4 +1,5 @@
-ghost use Rattle.std.specs.Prelude.{◌≡◌, []};
+ghost use Rattle.std.specs.Prelude.{◌≡◌};
+ghost use Rattle.msg_wire.specs.Steps.{empty_step};
 
 use crate::item::Items;
 use crate::mark::Marks;
@@ -19,9 +20,7 @@ pub struct Step {
 impl Step {
     /// Nothing to store, to send or to show. It takes no memory.
     pub fn new(alloc: Global) -> Step
-        ensures stable { result.stable ≡ [] }
-        ensures sends { result.sends ≡ [] }
-        ensures marks { result.marks ≡ [] }
+        ensures { result ≡ empty_step }
     {
         Step {
             stable: Items::new(alloc),
@@ -32,9 +31,7 @@ impl Step {
 
     /// Drops all that the step gave. The room of the lists is kept, for another step to be written into.
     pub fn clear(&mut self)
-        ensures stable { self.new.stable ≡ [] }
-        ensures sends { self.new.sends ≡ [] }
-        ensures marks { self.new.marks ≡ [] }
+        ensures { self.new ≡ empty_step }
     {
         self.stable.clear();
         self.sends.clear();

@@ -9,7 +9,7 @@ use Rattle.script_text.specs.Lines.{Line, counts, counted_from, counted_lines, l
 use Rattle.script_text.specs.Judged.{Judged, version_in, seqs_in, shards_in, window_in, clients_in, consumers_in, input_in}
 use Rattle.script_text.specs.Reading.{Refusal, on_line, due_line, head_in, inputs_in, lines_in, script_in, IsRefusedAt}
 use Rattle.script_text.specs.Scripts.{SpellsLines, SpellsScript, lines_before}
-use Rattle.script_text.proofs.HeadLemmas.{head_in-ok}
+use Rattle.script_text.proofs.HeadLemmas.{cluster, from_sixth, from_fifth, from_fourth, from_third, from_second, head_in-ok}
 
 -- a value, and the lines that are left
 abbrev paired : {X : Type 0} → X → List Line → Result (X × List Line) Refusal
@@ -31,89 +31,85 @@ AllBelow line = AllByRecursion (λ (l : Line). l.number < line)
 -- ---- a due line, and what goes on behind it
 
 module _ {X Y : Type 0} (end other : ℕ) (judge : List ℕ → Judged X) (go_on go_other : X → List Line → Result (Y × List Line) Refusal) where
-  on_more : (r : Result X Refusal) (left more : List Line) → ((x : X) → go_on x (left ++ more) ≡ with_more more (go_other x left)) → (r >>= λ x. go_on x (left ++ more)) ≡ with_more more (r >>= λ x. go_other x left)
+  on_more : (r : Result X Refusal) (left more : List Line) → ((x : X) → go_on x (left ++ more) ≡ with_more more (go_other x left))
+      → (r >>= λ x. go_on x (left ++ more)) ≡ with_more more (r >>= λ x. go_other x left)
   unfolding with_more
   on_more (Ok x) left more h = h x
   on_more (Err refusal) left more h = refl
 
-  join : (r : Result X Refusal) (left : List Line) (go : X → List Line → Result (Y × List Line) Refusal) → ((r >>= λ x. paired x left) >>= λ p. go p.0 p.1) ≡ (r >>= λ x. go x left)
+  join : (r : Result X Refusal) (left : List Line) (go : X → List Line → Result (Y × List Line) Refusal)
+      → ((r >>= λ x. paired x left) >>= λ p. go p.0 p.1) ≡ (r >>= λ x. go x left)
   join (Ok x) left go = refl
   join (Err refusal) left go = refl
 
-  due_more : (n : ℕ) (front more : List Line) → suc n ≤ length front → ((x : X) (left : List Line) → n ≤ length left → go_on x (left ++ more) ≡ with_more more (go_other x left)) → (due_line end judge (front ++ more) >>= λ p. go_on p.0 p.1) ≡ with_more more (due_line other judge front >>= λ p. go_other p.0 p.1)
+  due_more : (n : ℕ) (front more : List Line) → suc n ≤ length front
+      → ((x : X) (left : List Line) → n ≤ length left → go_on x (left ++ more) ≡ with_more more (go_other x left))
+      → (due_line end judge (front ++ more) >>= λ p. go_on p.0 p.1) ≡ with_more more (due_line other judge front >>= λ p. go_other p.0 p.1)
   due_more n [] more some h = absurd (omega arith)
   due_more n (l ∷ left) more some h =
       let r = on_line l.number (judge l.bytes) in
       join r (left ++ more) go_on ∙ (on_more r left more (λ x. h x left (omega arith)) ∙ ap (with_more more) (sym (join r left go_other)))
 
-  on_below : (line number : ℕ) (j : Judged X) (left : List Line) → number < line → ((x : X) → Below line (go_other x left)) → Below line ((on_line number j >>= λ x. paired x left) >>= λ p. go_other p.0 p.1)
+  on_below : (line number : ℕ) (j : Judged X) (left : List Line) → number < line → ((x : X) → Below line (go_other x left))
+      → Below line ((on_line number j >>= λ x. paired x left) >>= λ p. go_other p.0 p.1)
   on_below line number (Ok x) left few h = h x
   on_below line number (Err kind) left few h = few
 
-  due_below : (line n : ℕ) (front : List Line) → AllBelow line front → suc n ≤ length front → ((x : X) (left : List Line) → AllBelow line left → n ≤ length left → Below line (go_other x left)) → Below line (due_line other judge front >>= λ p. go_other p.0 p.1)
+  due_below : (line n : ℕ) (front : List Line) → AllBelow line front → suc n ≤ length front
+      → ((x : X) (left : List Line) → AllBelow line left → n ≤ length left → Below line (go_other x left))
+      → Below line (due_line other judge front >>= λ p. go_other p.0 p.1)
   due_below line n [] few some h = absurd (omega arith)
   due_below line n (l ∷ left) few some h = on_below line l.number (judge l.bytes) left few.0 (λ x. h x left few.1 (omega arith))
 
 -- ---- the head
 
-abbrev cluster : ℕ → ℕ → ℕ × List Row → List ℕ → ℕ × AppKind → Config
-cluster seqs shards window homes consumers =
-    record { seqs = seqs; shards = shards; rounds = window.0; table = window.1; homes = homes; consumers = consumers.0; app = consumers.1 }
-
 abbrev done : ℕ → ℕ → ℕ × List Row → List ℕ → ℕ × AppKind → List Line → Result (Config × List Line) Refusal
 done seqs shards window homes consumers left = Ok (cluster seqs shards window homes consumers, left)
 
-abbrev sixth : ℕ → ℕ → ℕ → ℕ × List Row → List ℕ → List Line → Result (Config × List Line) Refusal
-sixth end seqs shards window homes lines = due_line end consumers_in lines >>= λ p. done seqs shards window homes p.0 p.1
-
-abbrev fifth : ℕ → ℕ → ℕ → ℕ × List Row → List Line → Result (Config × List Line) Refusal
-fifth end seqs shards window lines = due_line end (clients_in window.1) lines >>= λ p. sixth end seqs shards window p.0 p.1
-
-abbrev fourth : ℕ → ℕ → ℕ → List Line → Result (Config × List Line) Refusal
-fourth end seqs shards lines = due_line end (window_in shards) lines >>= λ p. fifth end seqs shards p.0 p.1
-
-abbrev third : ℕ → ℕ → List Line → Result (Config × List Line) Refusal
-third end seqs lines = due_line end shards_in lines >>= λ p. fourth end seqs p.0 p.1
-
 abbrev second : ℕ → ℕ → List Line → Result (Config × List Line) Refusal
-second end version lines = due_line end seqs_in lines >>= λ p. third end p.0 p.1
+second end version = from_second end
 
 module _ (end other : ℕ) (more : List Line) where
-  more_sixth : (seqs shards : ℕ) (window : ℕ × List Row) (homes : List ℕ) (left : List Line) → 1 ≤ length left → sixth end seqs shards window homes (left ++ more) ≡ with_more more (sixth other seqs shards window homes left)
+  more_sixth : (seqs shards : ℕ) (window : ℕ × List Row) (homes : List ℕ) (left : List Line) → 1 ≤ length left
+      → from_sixth end seqs shards window homes (left ++ more) ≡ with_more more (from_sixth other seqs shards window homes left)
   unfolding with_more
   more_sixth seqs shards window homes left some = due_more end other consumers_in (done seqs shards window homes) (done seqs shards window homes) 0 left more some (λ x rest few. refl)
 
-  more_fifth : (seqs shards : ℕ) (window : ℕ × List Row) (left : List Line) → 2 ≤ length left → fifth end seqs shards window (left ++ more) ≡ with_more more (fifth other seqs shards window left)
-  more_fifth seqs shards window left some = due_more end other (clients_in window.1) (sixth end seqs shards window) (sixth other seqs shards window) 1 left more some (more_sixth seqs shards window)
+  more_fifth : (seqs shards : ℕ) (window : ℕ × List Row) (left : List Line) → 2 ≤ length left
+      → from_fifth end seqs shards window (left ++ more) ≡ with_more more (from_fifth other seqs shards window left)
+  more_fifth seqs shards window left some = due_more end other (clients_in window.1) (from_sixth end seqs shards window) (from_sixth other seqs shards window) 1 left more some (more_sixth seqs shards window)
 
-  more_fourth : (seqs shards : ℕ) (left : List Line) → 3 ≤ length left → fourth end seqs shards (left ++ more) ≡ with_more more (fourth other seqs shards left)
-  more_fourth seqs shards left some = due_more end other (window_in shards) (fifth end seqs shards) (fifth other seqs shards) 2 left more some (more_fifth seqs shards)
+  more_fourth : (seqs shards : ℕ) (left : List Line) → 3 ≤ length left
+      → from_fourth end seqs shards (left ++ more) ≡ with_more more (from_fourth other seqs shards left)
+  more_fourth seqs shards left some = due_more end other (window_in shards) (from_fifth end seqs shards) (from_fifth other seqs shards) 2 left more some (more_fifth seqs shards)
 
-  more_third : (seqs : ℕ) (left : List Line) → 4 ≤ length left → third end seqs (left ++ more) ≡ with_more more (third other seqs left)
-  more_third seqs left some = due_more end other shards_in (fourth end seqs) (fourth other seqs) 3 left more some (more_fourth seqs)
+  more_third : (seqs : ℕ) (left : List Line) → 4 ≤ length left → from_third end seqs (left ++ more) ≡ with_more more (from_third other seqs left)
+  more_third seqs left some = due_more end other shards_in (from_fourth end seqs) (from_fourth other seqs) 3 left more some (more_fourth seqs)
 
   more_second : (version : ℕ) (left : List Line) → 5 ≤ length left → second end version (left ++ more) ≡ with_more more (second other version left)
-  more_second version left some = due_more end other seqs_in (third end) (third other) 4 left more some more_third
+  more_second version left some = due_more end other seqs_in (from_third end) (from_third other) 4 left more some more_third
 
   head_more : (front : List Line) → 6 ≤ length front → head_in end (front ++ more) ≡ with_more more (head_in other front)
   unfolding head_in
   head_more front some = due_more end other version_in (second end) (second other) 5 front more some more_second
 
 module _ (other line : ℕ) where
-  below_sixth : (seqs shards : ℕ) (window : ℕ × List Row) (homes : List ℕ) (left : List Line) → AllBelow line left → 1 ≤ length left → Below line (sixth other seqs shards window homes left)
+  below_sixth : (seqs shards : ℕ) (window : ℕ × List Row) (homes : List ℕ) (left : List Line) → AllBelow line left → 1 ≤ length left
+      → Below line (from_sixth other seqs shards window homes left)
   below_sixth seqs shards window homes left few some = due_below other other consumers_in (done seqs shards window homes) (done seqs shards window homes) line 0 left few some (λ x rest f s. tt)
 
-  below_fifth : (seqs shards : ℕ) (window : ℕ × List Row) (left : List Line) → AllBelow line left → 2 ≤ length left → Below line (fifth other seqs shards window left)
-  below_fifth seqs shards window left few some = due_below other other (clients_in window.1) (sixth other seqs shards window) (sixth other seqs shards window) line 1 left few some (below_sixth seqs shards window)
+  below_fifth : (seqs shards : ℕ) (window : ℕ × List Row) (left : List Line) → AllBelow line left → 2 ≤ length left
+      → Below line (from_fifth other seqs shards window left)
+  below_fifth seqs shards window left few some = due_below other other (clients_in window.1) (from_sixth other seqs shards window) (from_sixth other seqs shards window) line 1 left few some (below_sixth seqs shards window)
 
-  below_fourth : (seqs shards : ℕ) (left : List Line) → AllBelow line left → 3 ≤ length left → Below line (fourth other seqs shards left)
-  below_fourth seqs shards left few some = due_below other other (window_in shards) (fifth other seqs shards) (fifth other seqs shards) line 2 left few some (below_fifth seqs shards)
+  below_fourth : (seqs shards : ℕ) (left : List Line) → AllBelow line left → 3 ≤ length left → Below line (from_fourth other seqs shards left)
+  below_fourth seqs shards left few some = due_below other other (window_in shards) (from_fifth other seqs shards) (from_fifth other seqs shards) line 2 left few some (below_fifth seqs shards)
 
-  below_third : (seqs : ℕ) (left : List Line) → AllBelow line left → 4 ≤ length left → Below line (third other seqs left)
-  below_third seqs left few some = due_below other other shards_in (fourth other seqs) (fourth other seqs) line 3 left few some (below_fourth seqs)
+  below_third : (seqs : ℕ) (left : List Line) → AllBelow line left → 4 ≤ length left → Below line (from_third other seqs left)
+  below_third seqs left few some = due_below other other shards_in (from_fourth other seqs) (from_fourth other seqs) line 3 left few some (below_fourth seqs)
 
   below_second : (version : ℕ) (left : List Line) → AllBelow line left → 5 ≤ length left → Below line (second other version left)
-  below_second version left few some = due_below other other seqs_in (third other) (third other) line 4 left few some below_third
+  below_second version left few some = due_below other other seqs_in (from_third other) (from_third other) line 4 left few some below_third
 
   head_below : (front : List Line) → AllBelow line front → 6 ≤ length front → Below line (head_in other front)
   unfolding head_in
@@ -121,7 +117,8 @@ module _ (other line : ℕ) where
 
 -- ---- the inputs
 
-first_below : (line number : ℕ) (j : Judged Input) (r : Result (List Input) Refusal) → number < line → Below line r → Below line (on_line number j >>= λ x. r >>= λ xs. Ok (x ∷ xs))
+first_below : (line number : ℕ) (j : Judged Input) (r : Result (List Input) Refusal) → number < line → Below line r
+    → Below line (on_line number j >>= λ x. r >>= λ xs. Ok (x ∷ xs))
 first_below line number (Ok x) (Ok xs) few h = tt
 first_below line number (Ok x) (Err refusal) few h = h
 first_below line number (Err kind) r few h = few
@@ -130,7 +127,8 @@ inputs_below : (c : Config) (line : ℕ) (front : List Line) → AllBelow line f
 inputs_below c line [] few = tt
 inputs_below c line (l ∷ front) few = first_below line l.number (input_in c l.bytes) (inputs_in c front) few.0 (inputs_below c line front few.1)
 
-first_stop : (number : ℕ) (j : Judged Input) (r s : Result (List Input) Refusal) (refusal : Refusal) → (r ≡ Err refusal → s ≡ Err refusal) → (on_line number j >>= λ x. r >>= λ xs. Ok (x ∷ xs)) ≡ Err refusal → (on_line number j >>= λ x. s >>= λ xs. Ok (x ∷ xs)) ≡ Err refusal
+first_stop : (number : ℕ) (j : Judged Input) (r s : Result (List Input) Refusal) (refusal : Refusal) → (r ≡ Err refusal → s ≡ Err refusal)
+    → (on_line number j >>= λ x. r >>= λ xs. Ok (x ∷ xs)) ≡ Err refusal → (on_line number j >>= λ x. s >>= λ xs. Ok (x ∷ xs)) ≡ Err refusal
 first_stop number (Ok x) (Ok xs) s refusal h e = absurd cc
 first_stop number (Ok x) (Err other) s refusal h e = rw (h e) refl
 first_stop number (Err kind) r s refusal h e = e
@@ -155,14 +153,18 @@ not_there line kind refusal few same = omega (arith, few, ap (λ (r : Refusal). 
 same_refusal : (r : Result (Config × List Input) Refusal) (a b : Refusal) → r ≡ Err a → r ≡ Err b → a ≡ b
 same_refusal r a b e f = cc
 
-from_inputs : (end other line : ℕ) (kind : ScriptKind) (front more : List Line) (c : Config) (left : List Line) (s : Result (List Input) Refusal) → head_in other front ≡ Ok (c, left) → head_in end (front ++ more) ≡ Ok (c, left ++ more) → inputs_in c left ≡ s → Below line s → lines_in end (front ++ more) ≡ Err (line, kind) → Taken other front
+from_inputs : (end other line : ℕ) (kind : ScriptKind) (front more : List Line) (c : Config) (left : List Line) (s : Result (List Input) Refusal)
+    → head_in other front ≡ Ok (c, left) → head_in end (front ++ more) ≡ Ok (c, left ++ more) → inputs_in c left ≡ s → Below line s
+    → lines_in end (front ++ more) ≡ Err (line, kind) → Taken other front
 unfolding lines_in
 from_inputs end other line kind front more c left (Ok inputs) h whole_head i few refused = (c, inputs, rw (h, i) refl)
 from_inputs end other line kind front more c left (Err refusal) h whole_head i few refused =
     let stopped : lines_in end (front ++ more) ≡ Err refusal = rw (whole_head, inputs_stop c left more refusal i) refl in
     absurd (not_there line kind refusal few (same_refusal (lines_in end (front ++ more)) refusal (line, kind) stopped refused))
 
-from_head : (end other line : ℕ) (kind : ScriptKind) (front more : List Line) (r : Result (Config × List Line) Refusal) → AllBelow line front → head_in other front ≡ r → head_in end (front ++ more) ≡ with_more more r → Below line r → lines_in end (front ++ more) ≡ Err (line, kind) → Taken other front
+from_head : (end other line : ℕ) (kind : ScriptKind) (front more : List Line) (r : Result (Config × List Line) Refusal) → AllBelow line front
+    → head_in other front ≡ r → head_in end (front ++ more) ≡ with_more more r → Below line r → lines_in end (front ++ more) ≡ Err (line, kind)
+    → Taken other front
 unfolding lines_in with_more
 from_head end other line kind front more (Ok (c, left)) few h whole_head below refused =
     let rest : left ≡ drop 6 front = (head_in-ok other front (c, left) h).rest_is in
@@ -173,7 +175,8 @@ from_head end other line kind front more (Err refusal) few h whole_head below re
     let stopped : lines_in end (front ++ more) ≡ Err refusal = rw whole_head refl in
     absurd (not_there line kind refusal below (same_refusal (lines_in end (front ++ more)) refusal (line, kind) stopped refused))
 
-taken_front : (end other line : ℕ) (kind : ScriptKind) (front more : List Line) → AllBelow line front → 6 ≤ length front → lines_in end (front ++ more) ≡ Err (line, kind) → Taken other front
+taken_front : (end other line : ℕ) (kind : ScriptKind) (front more : List Line) → AllBelow line front → 6 ≤ length front
+    → lines_in end (front ++ more) ≡ Err (line, kind) → Taken other front
 taken_front end other line kind front more few six refused =
     from_head end other line kind front more (head_in other front) few refl (head_more end other more front six) (head_below other line front few six) refused
 
@@ -212,11 +215,13 @@ cut_counted : (text cut : List ℕ) (line : ℕ) → lines cut ≡ take (line - 
 unfolding left_of
 cut_counted text cut line e = ap (counted_from 1) e
 
-parted : (text : List ℕ) (n : ℕ) → counted_lines text ≡ counted_from 1 (take n (lines text)) ++ counted_from (1 + length (take n (lines text))) (drop n (lines text))
+parted : (text : List ℕ) (n : ℕ)
+    → counted_lines text ≡ counted_from 1 (take n (lines text)) ++ counted_from (1 + length (take n (lines text))) (drop n (lines text))
 unfolding left_of
 parted text n = ap (counted_from 1) (sym (take-append-drop n (lines text))) ∙ counted-append 1 (take n (lines text)) (drop n (lines text))
 
-pub before-taken : (text cut : List ℕ) (line : ℕ) → lines cut ≡ take (line - 1) (lines text) → IsRefusedAt line text → 6 ≤ length (lines_before line text) → (c : Config) × (inputs : List Input) × (script_in cut ≡ Ok (c, inputs))
+pub before-taken : (text cut : List ℕ) (line : ℕ) → lines cut ≡ take (line - 1) (lines text) → IsRefusedAt line text → 6 ≤ length (lines_before line text)
+    → (c : Config) × (inputs : List Input) × (script_in cut ≡ Ok (c, inputs))
 before-taken text cut line e refused six =
     let front = lines_before line text in
     let more = counted_from (1 + length (take (line - 1) (lines text))) (drop (line - 1) (lines text)) in
@@ -225,5 +230,6 @@ before-taken text cut line e refused six =
     let taken = taken_front (end_of (whole text)) (end_of (whole cut)) line refused.0 front more (counted_below line 1 (take (line - 1) (lines text)) size) six there in
     (taken.0, taken.1, ap (lines_in (end_of (whole cut))) (cut_counted text cut line e) ∙ taken.2)
 
-pub before-spelled : (text cut : List ℕ) (line : ℕ) (c : Config) (inputs : List Input) (numbers : List ℕ) → lines cut ≡ take (line - 1) (lines text) → SpellsScript cut c inputs numbers → SpellsLines (lines_before line text) c inputs numbers
+pub before-spelled : (text cut : List ℕ) (line : ℕ) (c : Config) (inputs : List Input) (numbers : List ℕ) → lines cut ≡ take (line - 1) (lines text)
+    → SpellsScript cut c inputs numbers → SpellsLines (lines_before line text) c inputs numbers
 before-spelled text cut line c inputs numbers e s = let P : List Line → Type 0 = λ ls. SpellsLines ls c inputs numbers in subst P (cut_counted text cut line e) s

@@ -24,7 +24,8 @@ more_parts c a ps bs = refl
 onto_both : (c : ℕ) (parts bs : List (List ℕ)) (a : List ℕ) (ps : List (List ℕ)) → parts ≡ a ∷ ps → onto_first c (parts ++ bs) ≡ onto_first c parts ++ bs
 onto_both c parts bs a ps e = rw e refl
 
-split_on : (c : ℕ) (cs x : List ℕ) (b : Bool) → slice_split is_newline (cs ++ 10 ∷ x) ≡ slice_split is_newline cs ++ slice_split is_newline x → cond b ([] ∷ slice_split is_newline (cs ++ 10 ∷ x)) (onto_first c (slice_split is_newline (cs ++ 10 ∷ x))) ≡ cond b ([] ∷ slice_split is_newline cs) (onto_first c (slice_split is_newline cs)) ++ slice_split is_newline x
+split_on : (c : ℕ) (cs x : List ℕ) (b : Bool) → slice_split is_newline (cs ++ 10 ∷ x) ≡ slice_split is_newline cs ++ slice_split is_newline x
+    → cond b ([] ∷ slice_split is_newline (cs ++ 10 ∷ x)) (onto_first c (slice_split is_newline (cs ++ 10 ∷ x))) ≡ cond b ([] ∷ slice_split is_newline cs) (onto_first c (slice_split is_newline cs)) ++ slice_split is_newline x
 split_on c cs x true h = ap (λ (ps : List (List ℕ)). [] ∷ ps) h
 split_on c cs x false h =
     let some = split_some is_newline cs in
@@ -39,7 +40,8 @@ parts_append [] b bs = refl
 parts_append (a ∷ []) b bs = refl
 parts_append (a ∷ c ∷ ps) b bs = ap (λ (ls : List (List ℕ)). strip_carriage_return a ∷ ls) (parts_append (c ∷ ps) b bs)
 
-parts_both : (ps bs : List (List ℕ)) (b : List ℕ) (rest : List (List ℕ)) → bs ≡ b ∷ rest → lines_of_parts (ps ++ bs) ≡ map strip_carriage_return ps ++ lines_of_parts bs
+parts_both : (ps bs : List (List ℕ)) (b : List ℕ) (rest : List (List ℕ)) → bs ≡ b ∷ rest
+    → lines_of_parts (ps ++ bs) ≡ map strip_carriage_return ps ++ lines_of_parts bs
 parts_both ps bs b rest e = rw e (parts_append ps b rest)
 
 pub lines_on : (y x : List ℕ) → lines (y ++ 10 ∷ x) ≡ map strip_carriage_return (slice_split is_newline y) ++ lines x
@@ -72,7 +74,9 @@ no_lines text = record { within = omega arith; cut = inl refl; count_is = refl }
 one_line : (y : List ℕ) → slice_split is_newline y ≡ y ∷ [] → length (lines (y ++ 10 ∷ [])) ≡ 1
 one_line y e = ap length (lines_ended y ∙ ap (map strip_carriage_return) e)
 
-front_on : (c : ℕ) (cs : List ℕ) (b : Bool) → is_newline c ≡ b → slice_split is_newline (take (position_or_len is_newline cs) cs) ≡ take (position_or_len is_newline cs) cs ∷ [] → slice_split is_newline (take (position_or_len is_newline (c ∷ cs)) (c ∷ cs)) ≡ take (position_or_len is_newline (c ∷ cs)) (c ∷ cs) ∷ []
+front_on : (c : ℕ) (cs : List ℕ) (b : Bool) → is_newline c ≡ b
+    → slice_split is_newline (take (position_or_len is_newline cs) cs) ≡ take (position_or_len is_newline cs) cs ∷ []
+    → slice_split is_newline (take (position_or_len is_newline (c ∷ cs)) (c ∷ cs)) ≡ take (position_or_len is_newline (c ∷ cs)) (c ∷ cs) ∷ []
 front_on c cs true e h = rw e refl
 front_on c cs false e h = rw (e, one-add) (slice_split-cons_no is_newline c (take (position_or_len is_newline cs) cs) e ∙ ap (onto_first c) h)
 
@@ -80,7 +84,8 @@ front_whole : (xs : List ℕ) → slice_split is_newline (take (position_or_len 
 front_whole [] = refl
 front_whole (c ∷ cs) = front_on c cs (is_newline c) refl (front_whole cs)
 
-before_newline : (xs : List ℕ) (at : ℕ) → position is_newline xs ≡ Some at → (slice_split is_newline (take at xs) ≡ take at xs ∷ []) × (take (at + 1) xs ≡ take at xs ++ 10 ∷ []) × (at < length xs)
+before_newline : (xs : List ℕ) (at : ℕ) → position is_newline xs ≡ Some at
+    → (slice_split is_newline (take at xs) ≡ take at xs ∷ []) × (take (at + 1) xs ≡ take at xs ++ 10 ∷ []) × (at < length xs)
 before_newline xs at e =
     let here : (position_or_len is_newline xs ≡ at) × (position_or_len is_newline xs < length xs) = grind (arith, nat_tests) in
     let there = position-Some is_newline xs at 0 e in
@@ -88,7 +93,8 @@ before_newline xs at e =
     let P : ℕ → Type 0 = λ n. slice_split is_newline (take n xs) ≡ take n xs ∷ [] in
     (subst P here.0 (front_whole xs), (take_at_read xs at 0 there.0).1 ∙ ap (λ (b : ℕ). take at xs ++ b ∷ []) byte, there.0)
 
-pub next_line : (text : List ℕ) (at end count : ℕ) → IsEndOf text at count → position is_newline (drop at text) ≡ Some end → IsEndOf text (at + (end + 1)) (count + 1)
+pub next_line : (text : List ℕ) (at end count : ℕ) → IsEndOf text at count → position is_newline (drop at text) ≡ Some end
+    → IsEndOf text (at + (end + 1)) (count + 1)
 next_line text at end count h e =
     let b = before_newline (drop at text) end e in
     let size : length (take at text) ≡ at = omega (arith, length-take at text, h.within) in
@@ -117,7 +123,8 @@ last_line [] e = omega arith
 last_line (b ∷ bs) e = omega (arith, ap length (lines-end (b ∷ bs) (omega arith) e))
 
 -- where no further line ends, the text has no more than one line more
-pub lines-all : (text : List ℕ) (at count most : ℕ) → IsEndOf text at count → position is_newline (drop at text) ≡ None → count < most → lines (take (length text) text) ≡ take most (lines text)
+pub lines-all : (text : List ℕ) (at count most : ℕ) → IsEndOf text at count → position is_newline (drop at text) ≡ None → count < most
+    → lines (take (length text) text) ≡ take most (lines text)
 lines-all text at count most h e less =
     let few : length (lines text) ≤ most = omega (arith, ap length (lines_both text at count h), length-append (lines (take at text)) (lines (drop at text)), h.count_is, last_line (drop at text) e) in
     ap lines (take_all (length text) text (omega arith)) ∙ sym (take_all most (lines text) few)

@@ -37,23 +37,23 @@ module _ {A : Type 0} (end : ℕ) (judge : List ℕ → Judged A) where
       (l, ap (λ (q : A × List Line). l ∷ q.1) same, on_line-ok l.number (judge l.bytes) a.0 a.1 ∙ ap (λ (q : A × List Line). Ok q.0) same)
 
 -- what is left of the head, from a line on
-abbrev cluster : ℕ → ℕ → ℕ × List Row → List ℕ → ℕ × AppKind → Config
+abbrev pub cluster : ℕ → ℕ → ℕ × List Row → List ℕ → ℕ × AppKind → Config
 cluster seqs shards window homes consumers =
     record { seqs = seqs; shards = shards; rounds = window.0; table = window.1; homes = homes; consumers = consumers.0; app = consumers.1 }
 
-abbrev from_sixth : ℕ → ℕ → ℕ → ℕ × List Row → List ℕ → List Line → Result (Config × List Line) Refusal
+abbrev pub from_sixth : ℕ → ℕ → ℕ → ℕ × List Row → List ℕ → List Line → Result (Config × List Line) Refusal
 from_sixth end seqs shards window homes lines = due_line end consumers_in lines >>= λ x. Ok (cluster seqs shards window homes x.0, x.1)
 
-abbrev from_fifth : ℕ → ℕ → ℕ → ℕ × List Row → List Line → Result (Config × List Line) Refusal
+abbrev pub from_fifth : ℕ → ℕ → ℕ → ℕ × List Row → List Line → Result (Config × List Line) Refusal
 from_fifth end seqs shards window lines = due_line end (clients_in window.1) lines >>= λ x. from_sixth end seqs shards window x.0 x.1
 
-abbrev from_fourth : ℕ → ℕ → ℕ → List Line → Result (Config × List Line) Refusal
+abbrev pub from_fourth : ℕ → ℕ → ℕ → List Line → Result (Config × List Line) Refusal
 from_fourth end seqs shards lines = due_line end (window_in shards) lines >>= λ x. from_fifth end seqs shards x.0 x.1
 
-abbrev from_third : ℕ → ℕ → List Line → Result (Config × List Line) Refusal
+abbrev pub from_third : ℕ → ℕ → List Line → Result (Config × List Line) Refusal
 from_third end seqs lines = due_line end shards_in lines >>= λ x. from_fourth end seqs x.0 x.1
 
-abbrev from_second : ℕ → List Line → Result (Config × List Line) Refusal
+abbrev pub from_second : ℕ → List Line → Result (Config × List Line) Refusal
 from_second end lines = due_line end seqs_in lines >>= λ x. from_third end x.0 x.1
 
 six_lines : (l1 l2 l3 l4 l5 l6 : Line) (rest : List Line) (version seqs shards : ℕ) (window : ℕ × List Row) (homes : List ℕ) (consumers : ℕ × AppKind)
@@ -111,7 +111,8 @@ head_in-ok end lines p e =
     subst Q (ok_is Refusal (cluster b2.0.0 b3.0.0 b4.0.0 b5.0.0 b6.0.0, b6.0.1) p b6.2) (subst P (sym lines_are) facts)
 
 -- the head of a cluster is judged one
-pub head_in-back : (end : ℕ) (lines : List Line) (c : Config) → AllByRecursion IsPlain (take 6 lines) → SpellsHead (map (λ (l : Line). words_of l.bytes) (take 6 lines)) c → IsValidConfig c → head_in end lines ≡ Ok (c, drop 6 lines)
+pub head_in-back : (end : ℕ) (lines : List Line) (c : Config) → AllByRecursion IsPlain (take 6 lines)
+    → SpellsHead (map (λ (l : Line). words_of l.bytes) (take 6 lines)) c → IsValidConfig c → head_in end lines ≡ Ok (c, drop 6 lines)
 unfolding head_in
 head_in-back end [] c p h v = absurd h
 head_in-back end (l1 ∷ []) c p h v = absurd h

@@ -5,7 +5,7 @@ use Rattle.std.proofs.lemmas.Bool.Decides.{nat_tests}
 use Rattle.std.proofs.lemmas.Slice.Zip.{AllZip-long}
 use Rattle.quota_table.specs.Rows.{has_shard}
 use Rattle.record_codec.specs.Reading.{◌>>=◌}
-use Rattle.record_codec.specs.Entries.{AreRounds}
+use Rattle.quota_table.specs.Entries.{AreRounds}
 use Rattle.record_codec.proofs.Reading.{bind_ok, chosen, ok_is}
 use Rattle.msg_wire.specs.Valid.{IsTableOf}
 use Rattle.script_text.specs.Names.{Row, AppKind, ScriptKind}
@@ -19,7 +19,8 @@ use Rattle.script_text.proofs.RowSpelled.{window_of-ok, window_of-back}
 
 -- ---- the version
 
-version_ok : (words : List (List ℕ)) (word : List ℕ) (rest : List (List ℕ)) (v : ℕ) (a b : Bool) → (is_decimal word && (value_of word == 1)) ≡ a → nat_lt 0 (length rest) ≡ b → version_of (word ∷ rest) ≡ Ok v → (rest ≡ []) × SpellsDecimal word 1
+version_ok : (words : List (List ℕ)) (word : List ℕ) (rest : List (List ℕ)) (v : ℕ) (a b : Bool) → (is_decimal word && (value_of word == 1)) ≡ a
+    → nat_lt 0 (length rest) ≡ b → version_of (word ∷ rest) ≡ Ok v → (rest ≡ []) × SpellsDecimal word 1
 unfolding version_of
 version_ok words word rest v false b d w e = let bad = rw d at e in absurd cc
 version_ok words word rest v true true d w e = let bad = rw (d, w) at e in absurd cc
@@ -51,11 +52,13 @@ version_in-back line p s = rw (due_in-back (codes "belfast") line (s.0 ∷ []) p
 
 -- ---- sequencers and shards
 
-pub seqs_in-ok : (line : List ℕ) (n : ℕ) → seqs_in line ≡ Ok n → IsTrue (is_printable line) × SpellsNumber (codes "seqs") (words_of line) n × IsTrue (is_majority_size n)
+pub seqs_in-ok : (line : List ℕ) (n : ℕ) → seqs_in line ≡ Ok n
+    → IsTrue (is_printable line) × SpellsNumber (codes "seqs") (words_of line) n × IsTrue (is_majority_size n)
 unfolding seqs_in
 seqs_in-ok line n e = due_number-ok (codes "seqs") is_majority_size line n e
 
-pub seqs_in-back : (line : List ℕ) (n : ℕ) → IsTrue (is_printable line) → SpellsNumber (codes "seqs") (words_of line) n → IsTrue (is_majority_size n) → seqs_in line ≡ Ok n
+pub seqs_in-back : (line : List ℕ) (n : ℕ) → IsTrue (is_printable line) → SpellsNumber (codes "seqs") (words_of line) n → IsTrue (is_majority_size n)
+    → seqs_in line ≡ Ok n
 unfolding seqs_in
 seqs_in-back line n p s w = due_number-back (codes "seqs") is_majority_size line n p s w
 
@@ -65,11 +68,13 @@ majority_is n e = grind (arith, nat_tests)
 pub majority_true : (n : ℕ) → (n ≡ 1) ⊎ (n ≡ 3) ⊎ (n ≡ 5) → IsTrue (is_majority_size n)
 majority_true n h = grind (arith, nat_tests)
 
-pub shards_in-ok : (line : List ℕ) (n : ℕ) → shards_in line ≡ Ok n → IsTrue (is_printable line) × SpellsNumber (codes "shards") (words_of line) n × IsTrue (from_to 1 6 n)
+pub shards_in-ok : (line : List ℕ) (n : ℕ) → shards_in line ≡ Ok n
+    → IsTrue (is_printable line) × SpellsNumber (codes "shards") (words_of line) n × IsTrue (from_to 1 6 n)
 unfolding shards_in
 shards_in-ok line n e = due_number-ok (codes "shards") (from_to 1 6) line n e
 
-pub shards_in-back : (line : List ℕ) (n : ℕ) → IsTrue (is_printable line) → SpellsNumber (codes "shards") (words_of line) n → IsTrue (from_to 1 6 n) → shards_in line ≡ Ok n
+pub shards_in-back : (line : List ℕ) (n : ℕ) → IsTrue (is_printable line) → SpellsNumber (codes "shards") (words_of line) n → IsTrue (from_to 1 6 n)
+    → shards_in line ≡ Ok n
 unfolding shards_in
 shards_in-back line n p s w = due_number-back (codes "shards") (from_to 1 6) line n p s w
 
@@ -78,7 +83,8 @@ shards_in-back line n p s w = due_number-back (codes "shards") (from_to 1 6) lin
 abbrev pub SpellsWindowLine : List ℕ → ℕ → List Row → Type 0
 SpellsWindowLine line rounds rows = (words : List (List ℕ)) × (words_of line ≡ codes "window" ∷ words) × SpellsWindow words rounds rows
 
-pub window_in-ok : (shards : ℕ) (line : List ℕ) (w : ℕ × List Row) → window_in shards line ≡ Ok w → IsTrue (is_printable line) × SpellsWindowLine line w.0 w.1 × AreRounds w.0 × IsTableOf shards w.1
+pub window_in-ok : (shards : ℕ) (line : List ℕ) (w : ℕ × List Row) → window_in shards line ≡ Ok w
+    → IsTrue (is_printable line) × SpellsWindowLine line w.0 w.1 × AreRounds w.0 × IsTableOf shards w.1
 unfolding window_in
 window_in-ok shards line w e =
     let a = bind_ok (due_in (codes "window") line) (λ words. first_of words >>= λ first. window_of shards first.0 first.1) w e in
@@ -87,7 +93,8 @@ window_in-ok shards line w e =
     let h = window_of-ok shards b.0.0 b.0.1 w b.2 in
     (d.0, (b.0.0 ∷ b.0.1, d.1 ∙ ap (λ (ws : List (List ℕ)). codes "window" ∷ ws) (first_of-ok a.0 b.0 b.1), h.0), h.1, h.2)
 
-pub window_in-back : (shards : ℕ) (line : List ℕ) (rounds : ℕ) (rows : List Row) → IsTrue (is_printable line) → SpellsWindowLine line rounds rows → AreRounds rounds → IsTableOf shards rows → window_in shards line ≡ Ok (rounds, rows)
+pub window_in-back : (shards : ℕ) (line : List ℕ) (rounds : ℕ) (rows : List Row) → IsTrue (is_printable line) → SpellsWindowLine line rounds rows
+    → AreRounds rounds → IsTableOf shards rows → window_in shards line ≡ Ok (rounds, rows)
 unfolding window_in
 window_in-back shards line rounds rows p s k t =
     let w = s.2 in
@@ -98,19 +105,22 @@ window_in-back shards line rounds rows p s k t =
 abbrev pub HasRow : List Row → ℕ → Type 0
 HasRow rows home = IsTrue (has_shard home rows)
 
-homes_apart : (rows : List Row) (words : List (List ℕ)) (homes : List ℕ) → AllZip (λ word home. SpellsDecimal word home × HasRow rows home) words homes → AllZip SpellsDecimal words homes × AllByRecursion (HasRow rows) homes
+homes_apart : (rows : List Row) (words : List (List ℕ)) (homes : List ℕ) → AllZip (λ word home. SpellsDecimal word home × HasRow rows home) words homes
+    → AllZip SpellsDecimal words homes × AllByRecursion (HasRow rows) homes
 homes_apart rows [] [] z = (tt, tt)
 homes_apart rows [] (h ∷ homes) z = absurd z
 homes_apart rows (word ∷ words) [] z = absurd z
 homes_apart rows (word ∷ words) (h ∷ homes) z = let rest = homes_apart rows words homes z.1 in ((z.0.0, rest.0), (z.0.1, rest.1))
 
-homes_joined : (rows : List Row) (words : List (List ℕ)) (homes : List ℕ) → AllZip SpellsDecimal words homes → AllByRecursion (HasRow rows) homes → AllZip (λ word home. SpellsDecimal word home × HasRow rows home) words homes
+homes_joined : (rows : List Row) (words : List (List ℕ)) (homes : List ℕ) → AllZip SpellsDecimal words homes → AllByRecursion (HasRow rows) homes
+    → AllZip (λ word home. SpellsDecimal word home × HasRow rows home) words homes
 homes_joined rows [] [] z h = tt
 homes_joined rows [] (x ∷ homes) z h = absurd z
 homes_joined rows (word ∷ words) [] z h = absurd z
 homes_joined rows (word ∷ words) (x ∷ homes) z h = ((z.0, h.0), homes_joined rows words homes z.1 h.1)
 
-homes_of-ok : (rows : List Row) (words : List (List ℕ)) (homes : List ℕ) → homes_of rows words ≡ Ok homes → AllZip SpellsDecimal words homes × AllByRecursion (HasRow rows) homes × (1 ≤ length homes) × (length homes ≤ 6)
+homes_of-ok : (rows : List Row) (words : List (List ℕ)) (homes : List ℕ) → homes_of rows words ≡ Ok homes
+    → AllZip SpellsDecimal words homes × AllByRecursion (HasRow rows) homes × (1 ≤ length homes) × (length homes ≤ 6)
 unfolding homes_of
 homes_of-ok rows words homes e =
     elim (chosen (from_to 1 6 (length words)) (each (number_in (λ home. has_shard home rows)) words) (Err kinds.Word) (Ok homes) e) [
@@ -123,7 +133,8 @@ homes_of-ok rows words homes e =
       | inr h ↦ absurd (let bad = h.1 in cc)
     ]
 
-homes_of-back : (rows : List Row) (words : List (List ℕ)) (homes : List ℕ) → AllZip SpellsDecimal words homes → AllByRecursion (HasRow rows) homes → 1 ≤ length homes → length homes ≤ 6 → homes_of rows words ≡ Ok homes
+homes_of-back : (rows : List Row) (words : List (List ℕ)) (homes : List ℕ) → AllZip SpellsDecimal words homes → AllByRecursion (HasRow rows) homes
+    → 1 ≤ length homes → length homes ≤ 6 → homes_of rows words ≡ Ok homes
 unfolding homes_of
 homes_of-back rows words homes z h some few =
     let size : length homes ≡ length words = AllZip-long SpellsDecimal words homes z in
@@ -133,7 +144,8 @@ homes_of-back rows words homes z h some few =
 abbrev pub SpellsClients : List ℕ → List ℕ → Type 0
 SpellsClients line homes = (words : List (List ℕ)) × (words_of line ≡ codes "clients" ∷ words) × AllZip SpellsDecimal words homes
 
-pub clients_in-ok : (rows : List Row) (line homes : List ℕ) → clients_in rows line ≡ Ok homes → IsTrue (is_printable line) × SpellsClients line homes × AllByRecursion (HasRow rows) homes × (1 ≤ length homes) × (length homes ≤ 6)
+pub clients_in-ok : (rows : List Row) (line homes : List ℕ) → clients_in rows line ≡ Ok homes
+    → IsTrue (is_printable line) × SpellsClients line homes × AllByRecursion (HasRow rows) homes × (1 ≤ length homes) × (length homes ≤ 6)
 unfolding clients_in
 clients_in-ok rows line homes e =
     let a = bind_ok (due_in (codes "clients") line) (λ words. homes_of rows words) homes e in
@@ -141,13 +153,15 @@ clients_in-ok rows line homes e =
     let h = homes_of-ok rows a.0 homes a.2 in
     (d.0, (a.0, d.1, h.0), h.1, h.2, h.3)
 
-pub clients_in-back : (rows : List Row) (line homes : List ℕ) → IsTrue (is_printable line) → SpellsClients line homes → AllByRecursion (HasRow rows) homes → 1 ≤ length homes → length homes ≤ 6 → clients_in rows line ≡ Ok homes
+pub clients_in-back : (rows : List Row) (line homes : List ℕ) → IsTrue (is_printable line) → SpellsClients line homes → AllByRecursion (HasRow rows) homes
+    → 1 ≤ length homes → length homes ≤ 6 → clients_in rows line ≡ Ok homes
 unfolding clients_in
 clients_in-back rows line homes p s h some few = rw (due_in-back (codes "clients") line s.0 p s.1) (homes_of-back rows s.0 homes s.2 h some few)
 
 -- ---- consumers
 
-named_app : (word : List ℕ) (app : AppKind) (a b c : Bool) → is_word (app_name apps.Tally) word ≡ a → is_word (app_name apps.Bank) word ≡ b → is_word (app_name apps.Kv) word ≡ c → app_in word ≡ Ok app → word ≡ app_name app
+named_app : (word : List ℕ) (app : AppKind) (a b c : Bool) → is_word (app_name apps.Tally) word ≡ a → is_word (app_name apps.Bank) word ≡ b
+    → is_word (app_name apps.Kv) word ≡ c → app_in word ≡ Ok app → word ≡ app_name app
 unfolding app_in
 named_app word app true b c x y z e = is_word-same (app_name apps.Tally) word x ∙ ap app_name (ok_is ScriptKind apps.Tally app (rw x at e))
 named_app word app false true c x y z e = is_word-same (app_name apps.Bank) word y ∙ ap app_name (ok_is ScriptKind apps.Bank app (rw (x, y) at e))
@@ -166,7 +180,8 @@ app_in-back apps.Kv = refl
 abbrev pub SpellsConsumers : List ℕ → ℕ → AppKind → Type 0
 SpellsConsumers line consumers app = (count : List ℕ) × (words_of line ≡ codes "consumers" ∷ count ∷ app_name app ∷ []) × SpellsDecimal count consumers
 
-pub consumers_in-ok : (line : List ℕ) (k : ℕ × AppKind) → consumers_in line ≡ Ok k → IsTrue (is_printable line) × SpellsConsumers line k.0 k.1 × IsTrue (from_to 1 4 k.0)
+pub consumers_in-ok : (line : List ℕ) (k : ℕ × AppKind) → consumers_in line ≡ Ok k
+    → IsTrue (is_printable line) × SpellsConsumers line k.0 k.1 × IsTrue (from_to 1 4 k.0)
 unfolding consumers_in
 consumers_in-ok line k e =
     let a = bind_ok (due_in (codes "consumers") line) (λ words. both_of words >>= λ both. app_in both.1 >>= λ app. number_in (from_to 1 4) both.0 >>= λ count. Ok (count, app)) k e in
@@ -180,7 +195,8 @@ consumers_in-ok line k e =
     let P : ℕ × AppKind → Type 0 = λ q. IsTrue (is_printable line) × SpellsConsumers line q.0 q.1 × IsTrue (from_to 1 4 q.0) in
     subst P (ok_is ScriptKind (n.0, x.0) k n.2) (d.0, (b.0.0, words, s.0), s.1)
 
-pub consumers_in-back : (line : List ℕ) (consumers : ℕ) (app : AppKind) → IsTrue (is_printable line) → SpellsConsumers line consumers app → IsTrue (from_to 1 4 consumers) → consumers_in line ≡ Ok (consumers, app)
+pub consumers_in-back : (line : List ℕ) (consumers : ℕ) (app : AppKind) → IsTrue (is_printable line) → SpellsConsumers line consumers app
+    → IsTrue (from_to 1 4 consumers) → consumers_in line ≡ Ok (consumers, app)
 unfolding consumers_in
 consumers_in-back line consumers app p s w =
     rw (due_in-back (codes "consumers") line (s.0 ∷ app_name app ∷ []) p s.1, app_in-back app, number_in-back (from_to 1 4) s.0 consumers s.2 w) refl

@@ -39,7 +39,8 @@ body_in-ok bytes body e =
       | inr h ↦ (ok_is ScriptKind bytes body h.1, grind (arith, nat_tests, h.0))
     ]
 
-submit_of-ok : (c : Config) (line : List ℕ) (words : List (List ℕ)) (input : Input) → Begins line (codes "submit") words → submit_of c (body_of line) words ≡ Ok input → Holds c line input
+submit_of-ok : (c : Config) (line : List ℕ) (words : List (List ℕ)) (input : Input) → Begins line (codes "submit") words
+    → submit_of c (body_of line) words ≡ Ok input → Holds c line input
 unfolding submit_of
 submit_of-ok c line words input b e =
     let f = bind_ok (first_of words) (λ first. number_below (length c.homes) first.0 >>= λ client. body_in (body_of line) >>= λ body. Ok (inputs.Submit client body)) input e in
@@ -59,34 +60,39 @@ message_of-ok words n e =
     let w = bind_ok (only_of words) (λ word. number_in (λ _. true) word) n e in
     (w.0, only_of-ok words w.0 w.1, (number_in-ok (λ _. true) w.0 n w.2).0)
 
-deliver_of-ok : (c : Config) (line : List ℕ) (words : List (List ℕ)) (input : Input) → Begins line (codes "deliver") words → deliver_of words ≡ Ok input → Holds c line input
+deliver_of-ok : (c : Config) (line : List ℕ) (words : List (List ℕ)) (input : Input) → Begins line (codes "deliver") words → deliver_of words ≡ Ok input
+    → Holds c line input
 unfolding deliver_of
 deliver_of-ok c line words input b e =
     let n = bind_ok (message_of words) (λ number. Ok (inputs.Deliver number)) input e in
     let w = message_of-ok words n.0 n.1 in
     subst (Holds c line) (ok_is ScriptKind (inputs.Deliver n.0) input n.2) ((w.0, after line (codes "deliver") words (w.0 ∷ []) b w.1, w.2), tt)
 
-lose_of-ok : (c : Config) (line : List ℕ) (words : List (List ℕ)) (input : Input) → Begins line (codes "lose") words → lose_of words ≡ Ok input → Holds c line input
+lose_of-ok : (c : Config) (line : List ℕ) (words : List (List ℕ)) (input : Input) → Begins line (codes "lose") words → lose_of words ≡ Ok input
+    → Holds c line input
 unfolding lose_of
 lose_of-ok c line words input b e =
     let n = bind_ok (message_of words) (λ number. Ok (inputs.Lose number)) input e in
     let w = message_of-ok words n.0 n.1 in
     subst (Holds c line) (ok_is ScriptKind (inputs.Lose n.0) input n.2) ((w.0, after line (codes "lose") words (w.0 ∷ []) b w.1, w.2), tt)
 
-drain_of-ok : (c : Config) (line : List ℕ) (words : List (List ℕ)) (input : Input) → Begins line (codes "drain") words → drain_of words ≡ Ok input → Holds c line input
+drain_of-ok : (c : Config) (line : List ℕ) (words : List (List ℕ)) (input : Input) → Begins line (codes "drain") words → drain_of words ≡ Ok input
+    → Holds c line input
 unfolding drain_of
 drain_of-ok c line words input b e =
     let w = bind_ok (only_of words) (λ word. number_in (from_to 0 200000) word >>= λ count. Ok (inputs.Drain count)) input e in
     let n = bind_ok (number_in (from_to 0 200000) w.0) (λ count. Ok (inputs.Drain count)) input w.2 in
     let s = number_in-ok (from_to 0 200000) w.0 n.0 n.1 in
-    subst (Holds c line) (ok_is ScriptKind (inputs.Drain n.0) input n.2) ((w.0, after line (codes "drain") words (w.0 ∷ []) b (only_of-ok words w.0 w.1), s.0), (from_to-is 0 200000 n.0 s.1).1)
+    subst (Holds c line) (ok_is ScriptKind (inputs.Drain n.0) input n.2) (((w.0, after line (codes "drain") words (w.0 ∷ []) b (only_of-ok words w.0 w.1), s.0), (from_to-is 0 200000 n.0 s.1).1), tt)
 
 -- ---- nodes
 
-named : (line due : List ℕ) (words : List (List ℕ)) (word : List ℕ) (node : NodeId) → Begins line due words → words ≡ word ∷ [] → word ≡ node_name node → SpellsNode due (words_of line) node
+named : (line due : List ℕ) (words : List (List ℕ)) (word : List ℕ) (node : NodeId) → Begins line due words → words ≡ word ∷ [] → word ≡ node_name node
+    → SpellsNode due (words_of line) node
 named line due words word node b e n = after line due words (node_name node ∷ []) b (e ∙ ap (λ (w : List ℕ). w ∷ []) n)
 
-tick_of-ok : (c : Config) (line : List ℕ) (words : List (List ℕ)) (input : Input) → Begins line (codes "tick") words → tick_of c words ≡ Ok input → Holds c line input
+tick_of-ok : (c : Config) (line : List ℕ) (words : List (List ℕ)) (input : Input) → Begins line (codes "tick") words → tick_of c words ≡ Ok input
+    → Holds c line input
 unfolding tick_of
 tick_of-ok c line words input b e =
     let w = bind_ok (only_of words) (λ word. node_in (nodes_of c) word >>= λ node. Ok (inputs.Tick node)) input e in
@@ -94,7 +100,8 @@ tick_of-ok c line words input b e =
     let h = node_in-ok w.0 n.0 (nodes_of c) n.1 in
     subst (Holds c line) (ok_is ScriptKind (inputs.Tick n.0) input n.2) (named line (codes "tick") words w.0 n.0 b (only_of-ok words w.0 w.1) h.0, among-nodes c n.0 h.1)
 
-restart_of-ok : (c : Config) (line : List ℕ) (words : List (List ℕ)) (input : Input) → Begins line (codes "restart") words → restart_of c words ≡ Ok input → Holds c line input
+restart_of-ok : (c : Config) (line : List ℕ) (words : List (List ℕ)) (input : Input) → Begins line (codes "restart") words → restart_of c words ≡ Ok input
+    → Holds c line input
 unfolding restart_of
 restart_of-ok c line words input b e =
     let w = bind_ok (only_of words) (λ word. node_in (nodes_of c) word >>= λ node. Ok (inputs.Restart node)) input e in
@@ -104,7 +111,8 @@ restart_of-ok c line words input b e =
 
 -- ---- commands
 
-table_of-ok : (c : Config) (line : List ℕ) (words : List (List ℕ)) (input : Input) → Begins line (codes "table") words → table_of c words ≡ Ok input → Holds c line input
+table_of-ok : (c : Config) (line : List ℕ) (words : List (List ℕ)) (input : Input) → Begins line (codes "table") words → table_of c words ≡ Ok input
+    → Holds c line input
 unfolding table_of
 table_of-ok c line words input b e =
     let f = bind_ok (first_of words) (λ first. first_of first.1 >>= λ second. node_in (sequencers_of c) first.0 >>= λ node. window_of c.shards second.0 second.1 >>= λ window. Ok (inputs.Command node (commands.Table window.0 window.1))) input e in
@@ -118,7 +126,8 @@ table_of-ok c line words input b e =
     subst (Holds c line) (ok_is ScriptKind (inputs.Command n.0 (commands.Table w.0.0 w.0.1)) input w.2)
     ((g.0.0 ∷ g.0.1, after line (codes "table") words (node_name n.0 ∷ g.0.0 ∷ g.0.1) b words_are, s.0), (among-sequencers c n.0 h.1, (s.1, s.2)))
 
-remove_of-ok : (c : Config) (line : List ℕ) (words : List (List ℕ)) (input : Input) → Begins line (codes "remove") words → remove_of c words ≡ Ok input → Holds c line input
+remove_of-ok : (c : Config) (line : List ℕ) (words : List (List ℕ)) (input : Input) → Begins line (codes "remove") words → remove_of c words ≡ Ok input
+    → Holds c line input
 unfolding remove_of
 remove_of-ok c line words input b e =
     let f = bind_ok (both_of words) (λ both. node_in (sequencers_of c) both.0 >>= λ node. number_below c.shards both.1 >>= λ shard. Ok (inputs.Command node (commands.Remove shard))) input e in
@@ -205,11 +214,13 @@ module _ (c : Config) (line word : List ℕ) (words : List (List ℕ)) (input : 
     | inr h ↦ second h.1
   ]
 
-form_of-ok : (c : Config) (line : List ℕ) (words : List (List ℕ)) (input : Input) → words_of line ≡ words → form_of c (body_of line) words ≡ Ok input → Holds c line input
+form_of-ok : (c : Config) (line : List ℕ) (words : List (List ℕ)) (input : Input) → words_of line ≡ words → form_of c (body_of line) words ≡ Ok input
+    → Holds c line input
 form_of-ok c line [] input w e = absurd cc
 form_of-ok c line (word ∷ words) input w e = first c line word words input w e
 
-pub input_in-ok : (c : Config) (line : List ℕ) (input : Input) → input_in c line ≡ Ok input → IsTrue (is_printable line) × SpellsInput line input × IsInputOf c input
+pub input_in-ok : (c : Config) (line : List ℕ) (input : Input) → input_in c line ≡ Ok input
+    → IsTrue (is_printable line) × SpellsInput line input × IsInputOf c input
 unfolding input_in
 input_in-ok c line input e =
     elim (chosen (not (is_printable line)) (Err kinds.Byte) (form_of c (body_of line) (words_of line)) (Ok input) e) [
@@ -219,7 +230,8 @@ input_in-ok c line input e =
 
 -- ---- and back
 
-spelled : (c : Config) (line : List ℕ) (words : List (List ℕ)) (input : Input) → IsTrue (is_printable line) → words_of line ≡ words → form_of c (body_of line) words ≡ Ok input → input_in c line ≡ Ok input
+spelled : (c : Config) (line : List ℕ) (words : List (List ℕ)) (input : Input) → IsTrue (is_printable line) → words_of line ≡ words
+    → form_of c (body_of line) words ≡ Ok input → input_in c line ≡ Ok input
 unfolding input_in
 spelled c line words input p w f = rw (p, w) f
 
@@ -227,7 +239,8 @@ any_number : (word : List ℕ) (n : ℕ) → SpellsDecimal word n → message_of
 unfolding message_of
 any_number word n s = number_in-back (λ _. true) word n s refl
 
-submit_back : (c : Config) (bytes word : List ℕ) (words : List (List ℕ)) (client : ℕ) (body : List ℕ) → SpellsDecimal word client → client < length c.homes → bytes ≡ body → IsBody body → submit_of c bytes (word ∷ words) ≡ Ok (inputs.Submit client body)
+submit_back : (c : Config) (bytes word : List ℕ) (words : List (List ℕ)) (client : ℕ) (body : List ℕ) → SpellsDecimal word client → client < length c.homes
+    → bytes ≡ body → IsBody body → submit_of c bytes (word ∷ words) ≡ Ok (inputs.Submit client body)
 unfolding submit_of
 submit_back c bytes word words client body s h same b =
     let fits : nat_lt 1024 (length bytes) ≡ false = grind (arith, nat_tests, ap length same) in
@@ -253,16 +266,19 @@ restart_back : (c : Config) (node : NodeId) → IsNodeOf c node → restart_of c
 unfolding restart_of
 restart_back c node h = rw (node-found c (node_name node) node refl h) refl
 
-table_back : (c : Config) (node : NodeId) (words : List (List ℕ)) (rounds : ℕ) (rows : List Row) → SpellsWindow words rounds rows → IsSequencerOf c node → IsCommandOf c (commands.Table rounds rows) → table_of c (node_name node ∷ words) ≡ Ok (inputs.Command node (commands.Table rounds rows))
+table_back : (c : Config) (node : NodeId) (words : List (List ℕ)) (rounds : ℕ) (rows : List Row) → SpellsWindow words rounds rows → IsSequencerOf c node
+    → IsCommandOf c (commands.Table rounds rows) → table_of c (node_name node ∷ words) ≡ Ok (inputs.Command node (commands.Table rounds rows))
 unfolding table_of
 table_back c node words rounds rows w q k =
     rw (w.2, sequencer-found c (node_name node) node refl q, window_of-back c.shards w.0 w.1 rounds rows w.3 w.4 k.0 k.1) refl
 
-remove_back : (c : Config) (node : NodeId) (word : List ℕ) (shard : ℕ) → SpellsDecimal word shard → IsSequencerOf c node → shard < c.shards → remove_of c (node_name node ∷ word ∷ []) ≡ Ok (inputs.Command node (commands.Remove shard))
+remove_back : (c : Config) (node : NodeId) (word : List ℕ) (shard : ℕ) → SpellsDecimal word shard → IsSequencerOf c node → shard < c.shards
+    → remove_of c (node_name node ∷ word ∷ []) ≡ Ok (inputs.Command node (commands.Remove shard))
 unfolding remove_of
 remove_back c node word shard s q k = rw (sequencer-found c (node_name node) node refl q, number_below-back c.shards word shard s k) refl
 
-pub input_in-back : (c : Config) (line : List ℕ) (input : Input) → IsTrue (is_printable line) → SpellsInput line input → IsInputOf c input → input_in c line ≡ Ok input
+pub input_in-back : (c : Config) (line : List ℕ) (input : Input) → IsTrue (is_printable line) → SpellsInput line input → IsInputOf c input
+    → input_in c line ≡ Ok input
 input_in-back c line (inputs.Submit client body) p s h =
     let b = submit-back line client body s in
     spelled c line (codes "submit" ∷ b.word ∷ b.words) (inputs.Submit client body) p b.words_are (submit_back c (body_of line) b.word b.words client body b.client_is h.0 b.body_is h.1)
@@ -274,4 +290,4 @@ input_in-back c line (inputs.Command node (commands.Table rounds rows)) p s h =
     spelled c line (codes "table" ∷ node_name node ∷ s.0) (inputs.Command node (commands.Table rounds rows)) p s.1 (table_back c node s.0 rounds rows s.2 h.0 h.1)
 input_in-back c line (inputs.Command node (commands.Remove shard)) p s h =
     spelled c line (codes "remove" ∷ node_name node ∷ s.0 ∷ []) (inputs.Command node (commands.Remove shard)) p s.1 (remove_back c node s.0 shard s.2 h.0 h.1)
-input_in-back c line (inputs.Drain n) p s h = spelled c line (codes "drain" ∷ s.0 ∷ []) (inputs.Drain n) p s.1 (drain_back s.0 n s.2 h)
+input_in-back c line (inputs.Drain n) p s h = spelled c line (codes "drain" ∷ s.0.0 ∷ []) (inputs.Drain n) p s.0.1 (drain_back s.0.0 n s.0.2 s.1)

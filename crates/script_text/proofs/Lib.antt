@@ -17,3 +17,4 @@ pub mod CutLemmas
 pub mod BeforeLemmas
 pub mod PlainWords
 pub mod PlainTexts
+pub mod PlainLines

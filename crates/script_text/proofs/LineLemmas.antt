@@ -9,7 +9,8 @@ lines_of_parts-more : (x y : List ℕ) (parts ys : List (List ℕ)) → parts �
 lines_of_parts-more x y parts ys e = rw e refl
 
 -- a line that a newline ends
-pub lines-newline : (text line : List ℕ) (at : ℕ) → position (λ b. b == 10) text ≡ Some at → line ≡ strip_carriage_return (take at text) → lines text ≡ line ∷ lines (take (length text - (at + 1)) (drop (at + 1) text))
+pub lines-newline : (text line : List ℕ) (at : ℕ) → position (λ b. b == 10) text ≡ Some at → line ≡ strip_carriage_return (take at text)
+    → lines text ≡ line ∷ lines (take (length text - (at + 1)) (drop (at + 1) text))
 lines-newline text line at e line_is =
     let some = split_some (λ b. b == 10) (drop (at + 1) text) in
     rw (to_end text (at + 1), line_is) (ap lines_of_parts (split-at (λ b. b == 10) text at e) ∙ lines_of_parts-more (take at text) some.0 (slice_split (λ b. b == 10) (drop (at + 1) text)) some.1 some.2)

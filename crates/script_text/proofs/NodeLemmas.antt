@@ -52,7 +52,8 @@ abbrev pub Among : NodeId → List NodeId → Type 0
 Among n [] = ⊥
 Among n (m ∷ ms) = (m ≡ n) ⊎ Among n ms
 
-found_at : (word : List ℕ) (node m : NodeId) (ms : List NodeId) (b : Bool) → is_word (node_name m) word ≡ b → word ≡ node_name node → (m ≡ node) ⊎ Among node ms → (Among node ms → find (λ n. is_word (node_name n) word) ms ≡ Some node) → cond b (Some m) (find (λ n. is_word (node_name n) word) ms) ≡ Some node
+found_at : (word : List ℕ) (node m : NodeId) (ms : List NodeId) (b : Bool) → is_word (node_name m) word ≡ b → word ≡ node_name node → (m ≡ node) ⊎ Among node ms
+    → (Among node ms → find (λ n. is_word (node_name n) word) ms ≡ Some node) → cond b (Some m) (find (λ n. is_word (node_name n) word) ms) ≡ Some node
 found_at word node m ms true e named among rest = ap Some (one_name m node (sym ((bytes_eq-Decides word (node_name m)).0 e) ∙ named))
 found_at word node m ms false e named (inl same) rest =
     let yes : is_word (node_name m) word ≡ true = (bytes_eq-Decides word (node_name m)).1 (named ∙ ap node_name (sym same)) in cc
@@ -67,7 +68,8 @@ pub node_in-among : (word : List ℕ) (node : NodeId) (ms : List NodeId) → wor
 unfolding node_in
 node_in-among word node ms named among = ap (some_or kinds.Node) (find-among word node ms named among)
 
-not_at : (word : List ℕ) (m : NodeId) (ms : List NodeId) (b : Bool) → is_word (node_name m) word ≡ b → (word ≡ node_name m → ⊥) → find (λ n. is_word (node_name n) word) ms ≡ None → cond b (Some m) (find (λ n. is_word (node_name n) word) ms) ≡ None
+not_at : (word : List ℕ) (m : NodeId) (ms : List NodeId) (b : Bool) → is_word (node_name m) word ≡ b → (word ≡ node_name m → ⊥)
+    → find (λ n. is_word (node_name n) word) ms ≡ None → cond b (Some m) (find (λ n. is_word (node_name n) word) ms) ≡ None
 not_at word m ms true e miss rest = absurd (miss ((bytes_eq-Decides word (node_name m)).0 e))
 not_at word m ms false e miss rest = rest
 
@@ -80,7 +82,9 @@ pub node_in-none : (word : List ℕ) (ms : List NodeId) → ((n : NodeId) → Am
 unfolding node_in
 node_in-none word ms miss = ap (some_or kinds.Node) (find-none word ms miss)
 
-found_is : (word : List ℕ) (node m : NodeId) (ms : List NodeId) (b : Bool) → is_word (node_name m) word ≡ b → (find (λ n. is_word (node_name n) word) ms ≡ Some node → (word ≡ node_name node) × Among node ms) → cond b (Some m) (find (λ n. is_word (node_name n) word) ms) ≡ Some node → (word ≡ node_name node) × Among node (m ∷ ms)
+found_is : (word : List ℕ) (node m : NodeId) (ms : List NodeId) (b : Bool) → is_word (node_name m) word ≡ b
+    → (find (λ n. is_word (node_name n) word) ms ≡ Some node → (word ≡ node_name node) × Among node ms)
+    → cond b (Some m) (find (λ n. is_word (node_name n) word) ms) ≡ Some node → (word ≡ node_name node) × Among node (m ∷ ms)
 found_is word node m ms true e rest found =
     let same : m ≡ node = cc in ((bytes_eq-Decides word (node_name m)).0 e ∙ ap node_name same, inl same)
 found_is word node m ms false e rest found = let later = rest found in (later.0, inr later.1)
@@ -140,7 +144,8 @@ replicas_at from (suc count) k side low high =
       | inr less ↦ inr (inr (replicas_at (from + 1) count k side (omega arith) (omega arith)))
     ]
 
-shards : (n : NodeId) (from count : ℕ) → Among n (flat_map replicas_of (range_with_len from count)) → (k : ℕ) × (side : Side) × (k < from + count) × (nodes.Shard k side ≡ n)
+shards : (n : NodeId) (from count : ℕ) → Among n (flat_map replicas_of (range_with_len from count))
+    → (k : ℕ) × (side : Side) × (k < from + count) × (nodes.Shard k side ≡ n)
 shards n from zero among = absurd among
 shards n from (suc count) (inl same) = (from, sides.Primary, omega arith, same)
 shards n from (suc count) (inr (inl same)) = (from, sides.Backup, omega arith, same)
@@ -215,13 +220,15 @@ KnowsNames word found = (n : NodeId) → IsValidNode n → word ≡ node_name n 
 pub node-found : (c : Config) (word : List ℕ) (node : NodeId) → word ≡ node_name node → IsNodeOf c node → node_in (nodes_of c) word ≡ Ok node
 node-found c word node named h = node_in-among word node (nodes_of c) named (node-among c node h)
 
-pub node-missed : (c : Config) (word : List ℕ) (found : Option NodeId) → IsValidConfig c → KnowsNames word found → ((n : NodeId) → found ≡ Some n → IsNodeOf c n → ⊥) → node_in (nodes_of c) word ≡ Err kinds.Node
+pub node-missed : (c : Config) (word : List ℕ) (found : Option NodeId) → IsValidConfig c → KnowsNames word found
+    → ((n : NodeId) → found ≡ Some n → IsNodeOf c n → ⊥) → node_in (nodes_of c) word ≡ Err kinds.Node
 node-missed c word found v knows miss =
     node_in-none word (nodes_of c) (λ n among named. let h : IsNodeOf c n = among-nodes c n among in miss n (knows n (valid_node c n v h) named) h)
 
 pub sequencer-found : (c : Config) (word : List ℕ) (node : NodeId) → word ≡ node_name node → IsSequencerOf c node → node_in (sequencers_of c) word ≡ Ok node
 sequencer-found c word node named h = node_in-among word node (sequencers_of c) named (sequencer-among c node h)
 
-pub sequencer-missed : (c : Config) (word : List ℕ) (found : Option NodeId) → IsValidConfig c → KnowsNames word found → ((n : NodeId) → found ≡ Some n → IsSequencerOf c n → ⊥) → node_in (sequencers_of c) word ≡ Err kinds.Node
+pub sequencer-missed : (c : Config) (word : List ℕ) (found : Option NodeId) → IsValidConfig c → KnowsNames word found
+    → ((n : NodeId) → found ≡ Some n → IsSequencerOf c n → ⊥) → node_in (sequencers_of c) word ≡ Err kinds.Node
 sequencer-missed c word found v knows miss =
     node_in-none word (sequencers_of c) (λ n among named. let h : IsSequencerOf c n = among-sequencers c n among in miss n (knows n (valid_node c n v (sequencer_node c n h)) named) h)

@@ -57,7 +57,8 @@ due_in-back due line rest p words = rw (p, words, is_word-itself due) refl
 
 -- ---- numbers
 
-number_ok : (within : ℕ → Bool) (word : List ℕ) (n : ℕ) (a b : Bool) → is_decimal word ≡ a → within (value_of word) ≡ b → number_in within word ≡ Ok n → SpellsDecimal word n × IsTrue (within n)
+number_ok : (within : ℕ → Bool) (word : List ℕ) (n : ℕ) (a b : Bool) → is_decimal word ≡ a → within (value_of word) ≡ b → number_in within word ≡ Ok n
+    → SpellsDecimal word n × IsTrue (within n)
 unfolding number_in
 number_ok within word n false b d w e = let bad = rw d at e in absurd cc
 number_ok within word n true false d w e = let bad = rw (d, w) at e in absurd cc
@@ -93,7 +94,8 @@ from_to-true least most n low high = grind (arith, nat_tests)
 abbrev pub due_number : List ℕ → (ℕ → Bool) → List ℕ → Judged ℕ
 due_number due within line = due_in due line >>= λ words. only_of words >>= λ word. number_in within word
 
-pub due_number-ok : (due : List ℕ) (within : ℕ → Bool) (line : List ℕ) (n : ℕ) → due_number due within line ≡ Ok n → IsTrue (is_printable line) × SpellsNumber due (words_of line) n × IsTrue (within n)
+pub due_number-ok : (due : List ℕ) (within : ℕ → Bool) (line : List ℕ) (n : ℕ) → due_number due within line ≡ Ok n
+    → IsTrue (is_printable line) × SpellsNumber due (words_of line) n × IsTrue (within n)
 due_number-ok due within line n e =
     let a = bind_ok (due_in due line) (λ words. only_of words >>= λ word. number_in within word) n e in
     let b = bind_ok (only_of a.0) (λ word. number_in within word) n a.2 in
@@ -101,7 +103,8 @@ due_number-ok due within line n e =
     let s = number_in-ok within b.0 n b.2 in
     (d.0, (b.0, d.1 ∙ ap (λ (ws : List (List ℕ)). due ∷ ws) (only_of-ok a.0 b.0 b.1), s.0), s.1)
 
-pub due_number-back : (due : List ℕ) (within : ℕ → Bool) (line : List ℕ) (n : ℕ) → IsTrue (is_printable line) → SpellsNumber due (words_of line) n → IsTrue (within n) → due_number due within line ≡ Ok n
+pub due_number-back : (due : List ℕ) (within : ℕ → Bool) (line : List ℕ) (n : ℕ) → IsTrue (is_printable line) → SpellsNumber due (words_of line) n
+    → IsTrue (within n) → due_number due within line ≡ Ok n
 due_number-back due within line n p s w = rw (due_in-back due line (s.0 ∷ []) p s.1) (number_in-back within s.0 n s.2 w)
 
 -- ---- several words
@@ -114,7 +117,8 @@ module _ {A : Type 0} (judge : List ℕ → Judged A) (R : List ℕ → A → Ty
       let b = bind_ok (each judge words) (λ rest. Ok (a.0 ∷ rest)) xs a.2 in
       subst (AllZip R (word ∷ words)) (ok_is ScriptKind (a.0 ∷ b.0) xs b.2) (sound word a.0 a.1, each-ok sound words b.0 b.1)
 
-  pub each-back : ((word : List ℕ) (x : A) → R word x → judge word ≡ Ok x) → (words : List (List ℕ)) (xs : List A) → AllZip R words xs → each judge words ≡ Ok xs
+  pub each-back : ((word : List ℕ) (x : A) → R word x → judge word ≡ Ok x) → (words : List (List ℕ)) (xs : List A) → AllZip R words xs
+      → each judge words ≡ Ok xs
   each-back complete [] [] z = refl
   each-back complete [] (x ∷ xs) z = absurd z
   each-back complete (word ∷ words) [] z = absurd z

@@ -46,7 +46,7 @@ no_return_at [] k p = refl
 no_return_at (c ∷ cs) zero p = no_return c (and_left (nat_le 0x20 c && nat_le c 0x7e) (is_printable cs) p)
 no_return_at (c ∷ cs) (suc k) p = no_return_at cs k (and_right (nat_le 0x20 c && nat_le c 0x7e) (is_printable cs) p)
 
-kept : (line : List ℕ) → is_printable line ≡ true → strip_carriage_return line ≡ line
+pub kept : (line : List ℕ) → is_printable line ≡ true → strip_carriage_return line ≡ line
 kept line p = rw (no_return_at line (length line - 1) p) refl
 
 abbrev ArePrintable : List (List ℕ) → Type 0
@@ -201,11 +201,11 @@ input_line c v (inputs.Command node (commands.Remove shard)) h s =
       spelled = (decimal shard, words_of-sentence (codes "remove" ∷ node_name node ∷ decimal shard ∷ []) (remove_word, (name, (plain_decimal shard few, tt))), spelled_decimal shard few);
     }
 input_line c v (inputs.Drain count) h s =
-    let few : count < 10 ^ 18 = omega (arith, h) in
+    let few : count < 10 ^ 18 = omega (arith, s) in
     record {
       printable = printable-sentence (codes "drain" ∷ decimal count ∷ []) (drain_word, (plain_decimal count few, tt));
       counted = refl;
-      spelled = number_line (codes "drain") count drain_word few;
+      spelled = (number_line (codes "drain") count drain_word few, s);
     }
 
 record AreLinesOf (number : ℕ) (rows : List (List ℕ)) (xs : List Input) : Type 0 where
@@ -214,7 +214,8 @@ record AreLinesOf (number : ℕ) (rows : List (List ℕ)) (xs : List Input) : Ty
   spelled : AllZip (λ (l : Line). SpellsInput l.bytes) (numbered number rows) xs
   size : length rows ≡ length xs
 
-input_lines : (c : Config) → IsValidConfig c → (number : ℕ) (xs : List Input) → AllByRecursion (IsInputOf c) xs → AllByRecursion IsSpellable xs → AreLinesOf number (map input_text xs) xs
+input_lines : (c : Config) → IsValidConfig c → (number : ℕ) (xs : List Input) → AllByRecursion (IsInputOf c) xs → AllByRecursion IsSpellable xs
+    → AreLinesOf number (map input_text xs) xs
 input_lines c v number [] h s = record { printable = tt; counted = tt; spelled = tt; size = refl }
 input_lines c v number (x ∷ xs) h s =
     let here = input_line c v x h.0 s.0 in
@@ -246,7 +247,8 @@ app_word apps.Tally = record { some = omega arith; letters = (refl, (refl, (refl
 app_word apps.Bank = record { some = omega arith; letters = (refl, (refl, (refl, (refl, tt)))); printable = refl }
 app_word apps.Kv = record { some = omega arith; letters = (refl, (refl, tt)); printable = refl }
 
-homes_small : (rows : List Row) (homes : List ℕ) → IsTable rows → AllByRecursion (λ home. IsTrue (has_shard home rows)) homes → AllByRecursion (λ home. home < 10 ^ 18) homes
+homes_small : (rows : List Row) (homes : List ℕ) → IsTable rows → AllByRecursion (λ home. IsTrue (has_shard home rows)) homes
+    → AllByRecursion (λ home. home < 10 ^ 18) homes
 homes_small rows [] t h = tt
 homes_small rows (x ∷ homes) t h = (omega (arith, shard_of_row x rows t h.0), homes_small rows homes t h.1)
 
@@ -273,7 +275,8 @@ head_text c rest =
 odd_small : (n : ℕ) → (n ≡ 1) ⊎ (n ≡ 3) ⊎ (n ≡ 5) → n < 10 ^ 18
 odd_small n h = let few : n ≤ 5 = grind arith in omega arith
 
-pub plain_script : (c : Config) (xs : List Input) → IsValidConfig c → AllByRecursion (IsInputOf c) xs → AllByRecursion IsSpellable xs → (text : List ℕ) × SpellsScript text c xs (range_with_len 7 (length xs))
+pub plain_script : (c : Config) (xs : List Input) → IsValidConfig c → AllByRecursion (IsInputOf c) xs → AllByRecursion IsSpellable xs
+    → (text : List ℕ) × SpellsScript text c xs (range_with_len 7 (length xs))
 unfolding left_of
 plain_script c xs v h s =
     let rest = map input_text xs in

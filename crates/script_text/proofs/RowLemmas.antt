@@ -42,7 +42,8 @@ decimal_whole xs e = digits_whole xs (and_right _ (all_ascii_digits xs) (and_rig
 no_quota : (shards : ℕ) (a b : List ℕ) → is_decimal b ≡ false → asked_of shards (a ∷ b ∷ []) ≡ Err kinds.Number
 no_quota shards a b bad = rw (bad, and_false (is_decimal a)) refl
 
-more_parts : (shards : ℕ) (a b y : List ℕ) (ys : List (List ℕ)) → slice_split is_colon b ≡ y ∷ ys → is_decimal b ≡ false → asked_of shards (a ∷ slice_split is_colon b) ≡ Err kinds.Number
+more_parts : (shards : ℕ) (a b y : List ℕ) (ys : List (List ℕ)) → slice_split is_colon b ≡ y ∷ ys → is_decimal b ≡ false
+    → asked_of shards (a ∷ slice_split is_colon b) ≡ Err kinds.Number
 more_parts shards a b y [] e bad =
     let same : y ≡ b = sym (ap (join_with_byte 58) e) ∙ join_with_byte-slice_split 58 b in
     rw e (no_quota shards a y (rw same bad))
@@ -55,7 +56,8 @@ parts_at shards a b false e =
     more_parts shards a b some.0 some.1 some.2 e ∙ sym (no_quota shards a b e)
 
 -- what stands before the first colon, and what stands after it
-pub asked-colon : (shards : ℕ) (word : List ℕ) (at : ℕ) → position is_colon word ≡ Some at → asked_in shards word ≡ asked_of shards (take at word ∷ take (length word - (at + 1)) (drop (at + 1) word) ∷ [])
+pub asked-colon : (shards : ℕ) (word : List ℕ) (at : ℕ) → position is_colon word ≡ Some at
+    → asked_in shards word ≡ asked_of shards (take at word ∷ take (length word - (at + 1)) (drop (at + 1) word) ∷ [])
 unfolding asked_in
 asked-colon shards word at e =
     rw (to_end word (at + 1)) (ap (asked_of shards) (split-at is_colon word at e) ∙ parts_at shards (take at word) (drop (at + 1) word) (is_decimal (drop (at + 1) word)) refl)

@@ -6,9 +6,9 @@ use Rattle.std.specs.Char.{is_ascii_digit}
 use Rattle.std.proofs.lemmas.Bool.Decides.{nat_tests}
 use Rattle.std.proofs.lemmas.List.Splits.{slice_split-cons_no, join_with_byte-slice_split}
 use Rattle.quota_table.specs.Rows.{is_row}
-use Rattle.quota_table.specs.Tables.{row_of, table_fault}
+use Rattle.quota_table.specs.Tables.{asked_row, table_fault}
 use Rattle.record_codec.specs.Reading.{◌>>=◌}
-use Rattle.record_codec.specs.Entries.{AreRounds}
+use Rattle.quota_table.specs.Entries.{AreRounds}
 use Rattle.record_codec.proofs.Reading.{bind_ok, chosen, ok_is}
 use Rattle.msg_wire.specs.Valid.{IsTableOf}
 use Rattle.script_text.specs.Names.{Asked, Row, ScriptKind, TableError}
@@ -22,7 +22,7 @@ use Rattle.script_text.proofs.TableLemmas.{IsTable-from_asked, table_fault-none}
 
 -- a row that was asked for, of a cluster with so many shards
 record SpellsAsked (shards : ℕ) (word : List ℕ) (a : Asked) : Type 0 where
-  row : SpellsRow word (row_of a)
+  row : SpellsRow word (asked_row a)
   shard : a.shard < shards
   quota : a.quota ≤ 4294967295
 
@@ -46,7 +46,8 @@ pair_ok shards word s q a parts e =
           ]
     ]
 
-parts_ok : (shards : ℕ) (word : List ℕ) (parts : List (List ℕ)) (a : Asked) → join_with_byte 58 parts ≡ word → asked_of shards parts ≡ Ok a → SpellsAsked shards word a
+parts_ok : (shards : ℕ) (word : List ℕ) (parts : List (List ℕ)) (a : Asked) → join_with_byte 58 parts ≡ word → asked_of shards parts ≡ Ok a
+    → SpellsAsked shards word a
 parts_ok shards word [] a j e = absurd cc
 parts_ok shards word (s ∷ []) a j e = absurd cc
 parts_ok shards word (s ∷ q ∷ []) a j e = pair_ok shards word s q a j e
@@ -69,7 +70,8 @@ decimal_then : (s q : List ℕ) → is_decimal s ≡ true → slice_split is_col
 unfolding is_decimal
 decimal_then s q e = digits_then s q (and_right _ (all_ascii_digits s) (and_right _ _ e))
 
-pair_back : (shards : ℕ) (s q : List ℕ) (a : Asked) → SpellsDecimal s a.shard → SpellsDecimal q a.quota → a.shard < shards → a.quota ≤ 4294967295 → asked_of shards (s ∷ q ∷ []) ≡ Ok a
+pair_back : (shards : ℕ) (s q : List ℕ) (a : Asked) → SpellsDecimal s a.shard → SpellsDecimal q a.quota → a.shard < shards → a.quota ≤ 4294967295
+    → asked_of shards (s ∷ q ∷ []) ≡ Ok a
 pair_back shards s q a shard quota low high =
     let few : nat_lt (value_of s) shards ≡ true = grind (arith, nat_tests, shard.1) in
     let fits : nat_le (value_of q) 4294967295 ≡ true = grind (arith, nat_tests, quota.1) in
@@ -85,15 +87,16 @@ asked-back shards word a h =
 
 -- ---- rows
 
-rows_spelled : (shards : ℕ) (words : List (List ℕ)) (asked : List Asked) → AllZip (SpellsAsked shards) words asked → AllZip SpellsRow words (map row_of asked) × AllByRecursion (λ (r : Row). r.shard < shards) (map row_of asked)
+rows_spelled : (shards : ℕ) (words : List (List ℕ)) (asked : List Asked) → AllZip (SpellsAsked shards) words asked
+    → AllZip SpellsRow words (map asked_row asked) × AllByRecursion (λ (r : Row). r.shard < shards) (map asked_row asked)
 rows_spelled shards [] [] z = (tt, tt)
 rows_spelled shards [] (a ∷ asked) z = absurd z
 rows_spelled shards (word ∷ words) [] z = absurd z
 rows_spelled shards (word ∷ words) (a ∷ asked) z =
     let rest = rows_spelled shards words asked z.1 in ((z.0.row, rest.0), (z.0.shard, rest.1))
 
-rows_of-ok : (asked : List Asked) (fault : Option TableError) (rows : List Row) → rows_of asked fault ≡ Ok rows → (fault ≡ None) × (map row_of asked ≡ rows)
-rows_of-ok asked None rows e = (refl, ok_is ScriptKind (map row_of asked) rows e)
+rows_of-ok : (asked : List Asked) (fault : Option TableError) (rows : List Row) → rows_of asked fault ≡ Ok rows → (fault ≡ None) × (map asked_row asked ≡ rows)
+rows_of-ok asked None rows e = (refl, ok_is ScriptKind (map asked_row asked) rows e)
 rows_of-ok asked (Some error) rows e = absurd cc
 
 pub rows_in-ok : (shards : ℕ) (words : List (List ℕ)) (rows : List Row) → rows_in shards words ≡ Ok rows → AllZip SpellsRow words rows × IsTableOf shards rows
@@ -106,16 +109,17 @@ rows_in-ok shards words rows e =
     subst P r.1 (s.0, record { table = IsTable-from_asked a.0 r.0; have_nodes = s.1 })
 
 -- a row as it would be asked for
-asked_row : Row → Asked
-asked_row r = record { shard = r.shard; quota = r.quota }
+as_asked : Row → Asked
+as_asked r = record { shard = r.shard; quota = r.quota }
 
-asked_again : (rows : List Row) → map row_of (map asked_row rows) ≡ rows
-unfolding asked_row
+asked_again : (rows : List Row) → map asked_row (map as_asked rows) ≡ rows
+unfolding as_asked
 asked_again [] = refl
 asked_again (r ∷ rows) = ap (λ (rs : List Row). r ∷ rs) (asked_again rows)
 
-rows_asked : (shards : ℕ) (words : List (List ℕ)) (rows : List Row) → AllZip SpellsRow words rows → AllByRecursion (λ (r : Row). r.shard < shards) rows → list_all is_row rows ≡ true → AllZip (SpellsAsked shards) words (map asked_row rows)
-unfolding asked_row
+rows_asked : (shards : ℕ) (words : List (List ℕ)) (rows : List Row) → AllZip SpellsRow words rows → AllByRecursion (λ (r : Row). r.shard < shards) rows
+    → list_all is_row rows ≡ true → AllZip (SpellsAsked shards) words (map as_asked rows)
+unfolding as_asked
 rows_asked shards [] [] z n v = tt
 rows_asked shards [] (r ∷ rows) z n v = absurd z
 rows_asked shards (word ∷ words) [] z n v = absurd z
@@ -126,14 +130,15 @@ rows_asked shards (word ∷ words) (r ∷ rows) z n v =
 pub rows_in-back : (shards : ℕ) (words : List (List ℕ)) (rows : List Row) → AllZip SpellsRow words rows → IsTableOf shards rows → rows_in shards words ≡ Ok rows
 unfolding rows_in
 rows_in-back shards words rows z t =
-    let asked = map asked_row rows in
+    let asked = map as_asked rows in
     let judged : each (asked_in shards) words ≡ Ok asked = each-back (asked_in shards) (SpellsAsked shards) (asked-back shards) words asked (rows_asked shards words rows z t.have_nodes t.table.within) in
     let none : table_fault asked ≡ None = table_fault-none asked (rw (asked_again rows) t.table) in
     rw (judged, none) (ap Ok (asked_again rows))
 
 -- ---- rounds and rows
 
-pub window_of-ok : (shards : ℕ) (word : List ℕ) (words : List (List ℕ)) (w : ℕ × List Row) → window_of shards word words ≡ Ok w → SpellsWindow (word ∷ words) w.0 w.1 × AreRounds w.0 × IsTableOf shards w.1
+pub window_of-ok : (shards : ℕ) (word : List ℕ) (words : List (List ℕ)) (w : ℕ × List Row) → window_of shards word words ≡ Ok w
+    → SpellsWindow (word ∷ words) w.0 w.1 × AreRounds w.0 × IsTableOf shards w.1
 unfolding window_of
 window_of-ok shards word words w e =
     let a = bind_ok (number_in (from_to 1 1024) word) (λ rounds. rows_in shards words >>= λ rows. Ok (rounds, rows)) w e in
@@ -143,7 +148,8 @@ window_of-ok shards word words w e =
     let P : ℕ × List Row → Type 0 = λ x. SpellsWindow (word ∷ words) x.0 x.1 × AreRounds x.0 × IsTableOf shards x.1 in
     subst P (ok_is ScriptKind (a.0, b.0) w b.2) ((word, words, refl, n.0, r.0), from_to-is 1 1024 a.0 n.1, r.1)
 
-pub window_of-back : (shards : ℕ) (word : List ℕ) (words : List (List ℕ)) (rounds : ℕ) (rows : List Row) → SpellsDecimal word rounds → AllZip SpellsRow words rows → AreRounds rounds → IsTableOf shards rows → window_of shards word words ≡ Ok (rounds, rows)
+pub window_of-back : (shards : ℕ) (word : List ℕ) (words : List (List ℕ)) (rounds : ℕ) (rows : List Row) → SpellsDecimal word rounds
+    → AllZip SpellsRow words rows → AreRounds rounds → IsTableOf shards rows → window_of shards word words ≡ Ok (rounds, rows)
 unfolding window_of
 window_of-back shards word words rounds rows n z k t =
     rw (number_in-back (from_to 1 1024) word rounds n (from_to-true 1 1024 rounds k.0 k.1), rows_in-back shards words rows z t) refl

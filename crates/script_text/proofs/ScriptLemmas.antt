@@ -20,11 +20,13 @@ use Rattle.script_text.proofs.InputSpelled.{input_in-ok, input_in-back}
 
 -- ---- the head
 
-pub head-valid : (end : ℕ) (lines rest : List Line) (r : Result Config ScriptError) → Gives (λ (c : Config). (c, rest)) r (head_in end lines) → IfOk r IsValidConfig
+pub head-valid : (end : ℕ) (lines rest : List Line) (r : Result Config ScriptError) → Gives (λ (c : Config). (c, rest)) r (head_in end lines)
+    → IfOk r IsValidConfig
 head-valid end lines rest (Ok c) g = (head_in-ok end lines (c, rest) g).valid
 head-valid end lines rest (Err e) g = tt
 
-pub head-rest : (end : ℕ) (lines rest : List Line) (r : Result Config ScriptError) → Gives (λ (c : Config). (c, rest)) r (head_in end lines) → IfOk r (λ _. rest ≡ drop 6 lines)
+pub head-rest : (end : ℕ) (lines rest : List Line) (r : Result Config ScriptError) → Gives (λ (c : Config). (c, rest)) r (head_in end lines)
+    → IfOk r (λ _. rest ≡ drop 6 lines)
 head-rest end lines rest (Ok c) g = (head_in-ok end lines (c, rest) g).rest_is
 head-rest end lines rest (Err e) g = tt
 
@@ -50,7 +52,8 @@ inputs_in-ok c (l ∷ lines) inputs e =
     subst (SpellsInputs c (l ∷ lines)) (ok_is Refusal (a.0 ∷ b.0) inputs b.2)
     (record { plain = (h.0, rest.plain); spelled = (h.1, rest.spelled); within = (h.2, rest.within) })
 
-inputs_in-back : (c : Config) (lines : List Line) (inputs : List Input) → AllByRecursion IsPlain lines → AllZip (λ (l : Line). SpellsInput l.bytes) lines inputs → AllByRecursion (IsInputOf c) inputs → inputs_in c lines ≡ Ok inputs
+inputs_in-back : (c : Config) (lines : List Line) (inputs : List Input) → AllByRecursion IsPlain lines → AllZip (λ (l : Line). SpellsInput l.bytes) lines inputs
+    → AllByRecursion (IsInputOf c) inputs → inputs_in c lines ≡ Ok inputs
 inputs_in-back c [] [] p z h = refl
 inputs_in-back c [] (x ∷ inputs) p z h = absurd z
 inputs_in-back c (l ∷ lines) [] p z h = absurd z
@@ -74,7 +77,8 @@ plain_rest zero lines p = p
 plain_rest (suc n) [] p = tt
 plain_rest (suc n) (l ∷ lines) p = plain_rest n lines p.1
 
-pub lines_in-ok : (end : ℕ) (lines : List Line) (c : Config) (inputs : List Input) → lines_in end lines ≡ Ok (c, inputs) → SpellsLines lines c inputs (numbers_of (drop 6 lines))
+pub lines_in-ok : (end : ℕ) (lines : List Line) (c : Config) (inputs : List Input) → lines_in end lines ≡ Ok (c, inputs)
+    → SpellsLines lines c inputs (numbers_of (drop 6 lines))
 unfolding lines_in
 lines_in-ok end lines c inputs e =
     let a = bind_ok (head_in end lines) (λ head. inputs_in head.0 head.1 >>= λ xs. Ok (head.0, xs)) (c, inputs) e in
@@ -92,24 +96,29 @@ lines_in-ok end lines c inputs e =
       numbers_are = refl;
     })
 
-pub lines_in-back : (end : ℕ) (lines : List Line) (c : Config) (inputs : List Input) (numbers : List ℕ) → SpellsLines lines c inputs numbers → lines_in end lines ≡ Ok (c, inputs)
+pub lines_in-back : (end : ℕ) (lines : List Line) (c : Config) (inputs : List Input) (numbers : List ℕ) → SpellsLines lines c inputs numbers
+    → lines_in end lines ≡ Ok (c, inputs)
 unfolding lines_in
 lines_in-back end lines c inputs numbers s =
     rw (head_in-back end lines c (plain_front 6 lines s.printable) s.head s.config, inputs_in-back c (drop 6 lines) inputs (plain_rest 6 lines s.printable) s.inputs_are s.within) refl
 
 -- ---- texts
 
-pub script-found : (text : List ℕ) (r : Result Script ScriptError) → Gives (λ (s : Script). (s.cfg, s.inputs)) r (script_in text) → IfOk r (λ s. s.lines ≡ numbers_of (drop 6 (counted_lines text))) → IfOk r (λ s. SpellsScript text s.cfg s.inputs s.lines)
+pub script-found : (text : List ℕ) (r : Result Script ScriptError) → Gives (λ (s : Script). (s.cfg, s.inputs)) r (script_in text)
+    → IfOk r (λ s. s.lines ≡ numbers_of (drop 6 (counted_lines text))) → IfOk r (λ s. SpellsScript text s.cfg s.inputs s.lines)
 script-found text (Ok s) g n =
     let P : List ℕ → Type 0 = λ numbers. SpellsScript text s.cfg s.inputs numbers in
     subst P (sym n) (lines_in-ok (end_of (whole text)) (counted_lines text) s.cfg s.inputs g)
 script-found text (Err e) g n = tt
 
-only_memory : (c : Config) (inputs : List Input) (e : ScriptError) (reading : Result (Config × List Input) Refusal) → reading ≡ Ok (c, inputs) → Fails e reading → e ≡ script_errors.OutOfMemory
+only_memory : (c : Config) (inputs : List Input) (e : ScriptError) (reading : Result (Config × List Input) Refusal) → reading ≡ Ok (c, inputs) → Fails e reading
+    → e ≡ script_errors.OutOfMemory
 only_memory c inputs (script_errors.At line kind) reading ok bad = absurd cc
 only_memory c inputs script_errors.OutOfMemory reading ok bad = refl
 
-pub script-only : (text : List ℕ) (r : Result Script ScriptError) → Gives (λ (s : Script). (s.cfg, s.inputs)) r (script_in text) → IfOk r (λ s. s.lines ≡ numbers_of (drop 6 (counted_lines text))) → (c : Config) (inputs : List Input) (numbers : List ℕ) → SpellsScript text c inputs numbers → Reads c inputs numbers r
+pub script-only : (text : List ℕ) (r : Result Script ScriptError) → Gives (λ (s : Script). (s.cfg, s.inputs)) r (script_in text)
+    → IfOk r (λ s. s.lines ≡ numbers_of (drop 6 (counted_lines text))) → (c : Config) (inputs : List Input) (numbers : List ℕ)
+    → SpellsScript text c inputs numbers → Reads c inputs numbers r
 script-only text (Ok s) g n c inputs numbers h =
     let read = lines_in-back (end_of (whole text)) (counted_lines text) c inputs numbers h in
     let same : (s.cfg, s.inputs) ≡ (c, inputs) = ok_is Refusal (s.cfg, s.inputs) (c, inputs) (sym g ∙ read) in

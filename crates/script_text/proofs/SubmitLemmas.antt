@@ -48,7 +48,8 @@ starts : (c : ℕ) (cs rest : List ℕ) → is_blank c ≡ false → spaces ((c 
 starts c cs rest e = rw e refl
 
 -- spaces, a word, and what follows it
-pub words-put : (before : List ℕ) (c : ℕ) (cs rest : List ℕ) → AreSpaces before → AreLetters (c ∷ cs) → IsEnded rest → (words_of (before ++ ((c ∷ cs) ++ rest)) ≡ (c ∷ cs) ∷ words_of rest) × (after_word (before ++ ((c ∷ cs) ++ rest)) ≡ rest)
+pub words-put : (before : List ℕ) (c : ℕ) (cs rest : List ℕ) → AreSpaces before → AreLetters (c ∷ cs) → IsEnded rest
+    → (words_of (before ++ ((c ∷ cs) ++ rest)) ≡ (c ∷ cs) ∷ words_of rest) × (after_word (before ++ ((c ∷ cs) ++ rest)) ≡ rest)
 words-put before c cs rest s w h =
     let line = before ++ ((c ∷ cs) ++ rest) in
     let n_is : length before ≡ spaces line = sym (spaces_then before ((c ∷ cs) ++ rest) s (starts c cs rest w.0)) in
@@ -103,7 +104,8 @@ word_there line word words some e =
       more = ap words_of (sym f.1) ∙ words_are;
     }
 
-word_or_none : (line word : List ℕ) (words : List (List ℕ)) (left : List ℕ) → left ≡ drop (spaces line) line → words_of line ≡ word ∷ words → HasWord line word words
+word_or_none : (line word : List ℕ) (words : List (List ℕ)) (left : List ℕ) → left ≡ drop (spaces line) line → words_of line ≡ word ∷ words
+    → HasWord line word words
 word_or_none line word words [] left_is e = let none : words_of line ≡ [] = words-none line [] (spaces line) refl left_is refl in absurd cc
 word_or_none line word words (c ∷ cs) left_is e = word_there line word words (omega (arith, ap length left_is)) e
 
@@ -139,7 +141,8 @@ spaces_end : (between x : List ℕ) → AreSpaces between → 0 < length between
 spaces_end [] x s some = absurd (omega arith)
 spaces_end (b ∷ bs) x s some = s.0
 
-second_word : (between word rest : List ℕ) → AreSpaces between → is_decimal word ≡ true → IsEnded rest → (words_of (between ++ (word ++ rest)) ≡ word ∷ words_of rest) × (after_word (between ++ (word ++ rest)) ≡ rest)
+second_word : (between word rest : List ℕ) → AreSpaces between → is_decimal word ≡ true → IsEnded rest
+    → (words_of (between ++ (word ++ rest)) ≡ word ∷ words_of rest) × (after_word (between ++ (word ++ rest)) ≡ rest)
 second_word between [] rest s d h = let none = decimal_some in absurd cc
 second_word between (c ∷ cs) rest s d h = words-put between c cs rest s (decimal_letters (c ∷ cs) d) h
 
@@ -175,7 +178,8 @@ some_blank (b ∷ bs) word words h e =
     let one : spaces (b ∷ bs) ≡ 1 + spaces bs = rw (blank_is b h) refl in
     rw (one, one-add) (omega arith)
 
-pub submit-ok : (line word : List ℕ) (words : List (List ℕ)) (client : ℕ) → words_of line ≡ codes "submit" ∷ word ∷ words → SpellsDecimal word client → SpellsSubmit line client (body_of line)
+pub submit-ok : (line word : List ℕ) (words : List (List ℕ)) (client : ℕ) → words_of line ≡ codes "submit" ∷ word ∷ words → SpellsDecimal word client
+    → SpellsSubmit line client (body_of line)
 submit-ok line word words client e s =
     let first = word-taken line (codes "submit") (word ∷ words) e in
     let rest = after_word line in

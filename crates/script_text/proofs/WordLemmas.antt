@@ -23,7 +23,8 @@ empty : (xs : List ℕ) → length xs ≡ 0 → xs ≡ []
 empty [] e = refl
 empty (x ∷ xs) e = absurd (omega arith)
 
-trim : (c : ℕ) (cs : List ℕ) (b : Bool) → is_blank c ≡ b → filter has_bytes (parts cs) ≡ filter has_bytes (parts (drop (spaces cs) cs)) → filter has_bytes (parts (c ∷ cs)) ≡ filter has_bytes (parts (drop (spaces (c ∷ cs)) (c ∷ cs)))
+trim : (c : ℕ) (cs : List ℕ) (b : Bool) → is_blank c ≡ b → filter has_bytes (parts cs) ≡ filter has_bytes (parts (drop (spaces cs) cs))
+    → filter has_bytes (parts (c ∷ cs)) ≡ filter has_bytes (parts (drop (spaces (c ∷ cs)) (c ∷ cs)))
 trim c cs true e h = rw (e, one-add) h
 trim c cs false e h = rw e (rw e refl)
 
@@ -79,7 +80,8 @@ words-none line left n n_is is none =
     words-trim line ∙ ap (λ rest. filter has_bytes (parts rest)) (sym left_is ∙ empty left none)
 
 -- and else a word, with what follows it
-pub words-first : (line left : List ℕ) (n m : ℕ) → n ≡ spaces line → left ≡ drop n line → 0 < length left → m ≡ letters left → (words_of line ≡ take m left ∷ words_of (drop m left)) × (drop m left ≡ after_word line) × (length (drop m left) < length line)
+pub words-first : (line left : List ℕ) (n m : ℕ) → n ≡ spaces line → left ≡ drop n line → 0 < length left → m ≡ letters left
+    → (words_of line ≡ take m left ∷ words_of (drop m left)) × (drop m left ≡ after_word line) × (length (drop m left) < length line)
 unfolding words_of after_word
 words-first line left n m n_is is some m_is =
     let left_is : left ≡ drop (spaces line) line = is ∙ ap (λ k. drop k line) n_is in

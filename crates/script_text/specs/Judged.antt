@@ -3,7 +3,7 @@
 use Rattle.std.specs.Prelude.{ℕ, ◌==◌, ◌&&◌, ◌||◌, nat_lt, nat_le, if◌then◌else◌, Bool, true, not, List, [], ◌∷◌, length, map, drop, codes, Option, Some, None, Result, Ok, Err}
 use Rattle.std.specs.List.{slice_split, find}
 use Rattle.quota_table.specs.Rows.{has_shard}
-use Rattle.quota_table.specs.Tables.{table_fault, row_of}
+use Rattle.quota_table.specs.Tables.{table_fault, asked_row}
 use Rattle.record_codec.specs.Reading.{◌>>=◌}
 use Rattle.spec_base.specs.Spelling.{node_name}
 use Rattle.msg_wire.specs.Nodes.{nodes_of, sequencers_of}
@@ -66,7 +66,7 @@ asked_in shards word = asked_of shards (slice_split (λ b. b == 58) word)
 
 -- the table of rows, or their fault
 abbrev pub rows_of : List Asked → Option TableError → Judged (List Row)
-rows_of asked None = Ok (map row_of asked)
+rows_of asked None = Ok (map asked_row asked)
 rows_of asked (Some error) = Err (kinds.Rows error)
 
 -- the table of the words, of a cluster with so many shards

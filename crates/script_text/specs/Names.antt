@@ -1,14 +1,12 @@
 -- The types that scripts speak of, and their variants: import from here.
-pub use Rattle.spec_base.specs.declared.node.NodeId.{NodeId}
-pub use Rattle.quota_table.specs.declared.rows.Asked.{Asked}
-pub use Rattle.quota_table.specs.declared.rows.Row.{Row}
-pub use Rattle.quota_table.specs.declared.errors.TableError.{TableError}
-pub use Rattle.record_codec.specs.declared.app_kind.AppKind.{AppKind}
-pub use Rattle.record_codec.specs.declared.app_kind.AppKind.TheVariants as apps
+pub use Rattle.msg_wire.specs.Names.{NodeId, Row, AppKind}
+pub use Rattle.msg_wire.specs.Names.apps
 pub use Rattle.msg_wire.specs.declared.config.Config.{Config}
 pub use Rattle.msg_wire.specs.declared.event.Command.{Command}
-pub use Rattle.msg_wire.specs.declared.event.Command.TheVariants as commands
 pub use Rattle.msg_wire.specs.declared.input.Input.{Input}
+pub use Rattle.msg_wire.specs.declared.event.Command.TheVariants as commands
 pub use Rattle.msg_wire.specs.declared.input.Input.TheVariants as inputs
+pub use Rattle.quota_table.specs.declared.rows.Asked.{Asked}
+pub use Rattle.quota_table.specs.declared.errors.TableError.{TableError}
 pub use Rattle.script_text.specs.declared.kind.ScriptKind.{ScriptKind}
 pub use Rattle.script_text.specs.declared.kind.ScriptKind.TheVariants as kinds

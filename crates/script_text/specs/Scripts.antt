@@ -1,5 +1,5 @@
 -- Which texts are scripts, and of what.
-use Rattle.std.specs.Prelude.{◌≡◌, ℕ, ◌-◌, ◌<◌, ◌^◌, List, map, take, drop, IsTrue}
+use Rattle.std.specs.Prelude.{◌≡◌, ℕ, ◌-◌, ◌<◌, ◌≤◌, ◌^◌, List, map, take, drop, IsTrue}
 use Rattle.std.specs.List.{AllByRecursion, AllZip}
 use Rattle.std.specs.Str.Lines.{lines}
 use Rattle.msg_wire.specs.Valid.{IsValidConfig}
@@ -9,6 +9,10 @@ use Rattle.script_text.specs.Names.inputs
 use Rattle.script_text.specs.Lines.{Line, numbers_of, counted_from, counted_lines}
 use Rattle.script_text.specs.Words.{is_printable, words_of}
 use Rattle.script_text.specs.Spelled.{SpellsHead, SpellsInput}
+
+-- each byte of these lines is printable
+abbrev pub ArePrintable : List Line → Type 0
+ArePrintable = AllByRecursion (λ (l : Line). IsTrue (is_printable l.bytes))
 
 -- lines that count, the first six of them a head and each further one an input, spell a cluster and its inputs; numbers are those of the inputs' lines
 pub record SpellsLines (lines : List Line) (c : Config) (inputs : List Input) (numbers : List ℕ) : Type 0 where
@@ -27,7 +31,7 @@ SpellsScript text = SpellsLines (counted_lines text)
 abbrev pub lines_before : ℕ → List ℕ → List Line
 lines_before line text = counted_from 1 (take (line - 1) (lines text))
 
--- what a line can say of an input: a printable body, a number of at most 18 digits
+-- what a line can say of an input: a printable body, a number of at most 18 digits, a count of at most 200,000
 abbrev pub IsSpellable : Input → Type 0
 IsSpellable (inputs.Submit client body) = IsTrue (is_printable body)
 IsSpellable (inputs.Deliver number) = number < 10 ^ 18
@@ -35,4 +39,4 @@ IsSpellable (inputs.Lose number) = number < 10 ^ 18
 IsSpellable (inputs.Tick node) = Unit {0}
 IsSpellable (inputs.Restart node) = Unit {0}
 IsSpellable (inputs.Command node command) = Unit {0}
-IsSpellable (inputs.Drain count) = Unit {0}
+IsSpellable (inputs.Drain count) = count ≤ 200000

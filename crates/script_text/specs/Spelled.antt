@@ -1,5 +1,5 @@
 -- What a line spells: relations between its words and what they say. Whether numbers and nodes are within bounds is said elsewhere.
-use Rattle.std.specs.Prelude.{◌≡◌, ◌⊎◌, ℕ, ◌<◌, List, [], ◌∷◌, ◌++◌, length, codes}
+use Rattle.std.specs.Prelude.{◌≡◌, ◌⊎◌, ℕ, ◌<◌, ◌≤◌, List, [], ◌∷◌, ◌++◌, length, codes}
 use Rattle.std.specs.List.{AllZip, AllByRecursion}
 use Rattle.spec_base.specs.Spelling.{node_name}
 use Rattle.script_text.specs.Names.{Row, AppKind, NodeId, Config, Input}
@@ -79,4 +79,4 @@ SpellsInput line (inputs.Command node (commands.Table rounds rows)) =
     (rest : List (List ℕ)) × (words_of line ≡ codes "table" ∷ node_name node ∷ rest) × SpellsWindow rest rounds rows
 SpellsInput line (inputs.Command node (commands.Remove shard)) =
     (word : List ℕ) × (words_of line ≡ codes "remove" ∷ node_name node ∷ word ∷ []) × SpellsDecimal word shard
-SpellsInput line (inputs.Drain count) = SpellsNumber (codes "drain") (words_of line) count
+SpellsInput line (inputs.Drain count) = SpellsNumber (codes "drain") (words_of line) count × (count ≤ 200000)

@@ -1,13 +1,17 @@
 -- The words of a line, and the numbers that words spell.
-use Rattle.std.specs.Prelude.{◌≡◌, ℕ, ◌==◌, ◌&&◌, nat_lt, nat_le, nat_eq, Bool, true, false, not, List, [], ◌∷◌, length, drop, IsTrue}
+use Rattle.std.specs.Prelude.{◌≡◌, ℕ, ◌==◌, ◌&&◌, ◌||◌, nat_lt, nat_le, nat_eq, Bool, true, false, not, List, [], ◌∷◌, length, drop, IsTrue}
 use Rattle.std.specs.List.{list_all, filter, slice_split, prefix_len}
 use Rattle.std.specs.Cmp.Lexicographic.{pointwise}
-use Rattle.std.specs.Str.{all_ascii_digits}
 use Rattle.std.specs.Str.Parse.{digits_value}
+use Rattle.record_codec.specs.Decimals as decimals
 
 -- bytes from 0x20 to 0x7e
 abbrev pub is_printable : List ℕ → Bool
 is_printable bytes = list_all (λ b. nat_le 0x20 b && nat_le b 0x7e) bytes
+
+-- a printable byte, or a newline
+abbrev pub is_plain : ℕ → Bool
+is_plain b = (nat_le 0x20 b && nat_le b 0x7e) || (b == 10)
 
 -- what follows the elements in front that pass a test
 abbrev pub drop_front : (ℕ → Bool) → List ℕ → List ℕ
@@ -32,7 +36,7 @@ is_word due word = pointwise nat_eq word due
 
 -- 1 to 18 digits
 unfoldable pub is_decimal : List ℕ → Bool
-is_decimal word = nat_lt 0 (length word) && (nat_le (length word) 18 && all_ascii_digits word)
+is_decimal word = decimals.is_decimal 18 word
 
 -- the number that digits spell
 unfoldable pub value_of : List ℕ → ℕ

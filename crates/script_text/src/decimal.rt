@@ -5,6 +5,7 @@ ghost use Rattle.script_text.specs.Words.{is_decimal, value_of};
 ghost use Rattle.script_text.specs.Judged.{number_in, number_below, from_to};
 
 use crate::kind::ScriptKind;
+use record_codec::decimal::number as read;
 
 /// The greatest number of digits.
 const MOST_DIGITS: usize = 18;
@@ -15,17 +16,7 @@ pub(crate) fn decimal(word: &[u8]) -> Option<u64>
     ensures number { result ≡ (if is_decimal word.now then Some (value_of word.now) else None) }
     ensures below { IfSome result (λ n. n < 10 ^ 18) }
 {
-    if word.is_empty() || word.len() > MOST_DIGITS {
-        return None;
-    }
-    let mut value: u64 = 0;
-    for digit in word {
-        if !digit.is_ascii_digit() {
-            return None;
-        }
-        value = value * 10 + u64::from(*digit - b'0');
-    }
-    Some(value)
+    read(MOST_DIGITS, word)
 }
 
 /// Any number.

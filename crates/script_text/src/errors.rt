@@ -1,3 +1,6 @@
+ghost use Rattle.std.specs.Prelude.{◌≡◌};
+ghost use Rattle.script_text.specs.declared.errors.LineError.TheVariants.{OutOfMemory as line_out_of_memory};
+
 use crate::kind::ScriptKind;
 use quota_table::OutOfMemory;
 use thiserror::Error;
@@ -13,7 +16,6 @@ pub enum ScriptError {
 }
 
 impl From<OutOfMemory> for ScriptError {
-    ghost use Rattle.std.specs.Prelude.{◌≡◌};
     ghost use Rattle.script_text.specs.declared.errors.ScriptError.TheVariants.{OutOfMemory as script_out_of_memory};
 
     ghost from_gives = { λ _ e. e ≡ script_out_of_memory };
@@ -30,24 +32,20 @@ pub(crate) enum LineError {
     OutOfMemory,
 }
 
-impl From<OutOfMemory> for LineError {
-    ghost use Rattle.std.specs.Prelude.{◌≡◌};
-    ghost use Rattle.script_text.specs.declared.errors.LineError.TheVariants.{OutOfMemory as line_out_of_memory};
-
-    ghost from_gives = { λ _ e. e ≡ line_out_of_memory };
-
-    fn from(_: OutOfMemory) -> LineError {
-        LineError::OutOfMemory
-    }
-}
-
 impl From<ScriptKind> for LineError {
-    ghost use Rattle.std.specs.Prelude.{◌≡◌};
     ghost use Rattle.script_text.specs.declared.errors.LineError.TheVariants.{Refused};
 
     ghost from_gives = { λ kind e. e ≡ Refused kind };
 
     fn from(kind: ScriptKind) -> LineError {
         LineError::Refused(kind)
+    }
+}
+
+impl From<OutOfMemory> for LineError {
+    ghost from_gives = { λ _ e. e ≡ line_out_of_memory };
+
+    fn from(_: OutOfMemory) -> LineError {
+        LineError::OutOfMemory
     }
 }

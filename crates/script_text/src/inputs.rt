@@ -2,8 +2,8 @@
 
 ghost use Rattle.std.specs.Prelude.{◌≡◌, ◌↔◌, ◌∷◌, drop, IsTrue};
 ghost use Rattle.msg_wire.specs.Nodes.{nodes_of, sequencers_of};
-ghost use Rattle.msg_wire.specs.Valid.{IsValidConfig, IsNodeOf, IsSequencerOf};
-ghost use Rattle.script_text.specs.Words.{words_of, after_word};
+ghost use Rattle.msg_wire.specs.Valid.{IsValidConfig, IsSequencerOf};
+ghost use Rattle.script_text.specs.Words.{is_printable, words_of, after_word};
 ghost use Rattle.script_text.specs.Judged.{node_in, body_in, submit_of, message_of, deliver_of, lose_of, drain_of, tick_of, restart_of, table_of, remove_of, form_of, input_in};
 ghost use Rattle.script_text.specs.Answers.{Says};
 
@@ -12,7 +12,7 @@ use crate::errors::LineError;
 use crate::kind::ScriptKind;
 use crate::rows::window;
 use crate::words::{both_words, first_word, is_printable, next_word, only_word};
-use msg_wire::{Command, Config, Input};
+use msg_wire::{Command, Config, Input, is_node_of};
 use record_codec::{Body, MOST_BODY};
 use spec_base::{NodeId, unspell};
 use std::alloc::Global;
@@ -20,13 +20,19 @@ use std::alloc::Global;
 /// The greatest count of a `drain`.
 const MOST_DRAIN: u64 = 200_000;
 
-/// The input that a line spells.
+/// The input that a line spells. With `plain` the line is known to be printable.
 #[tactic(auto, unfolding(crate::specs::Judged::input_in))]
-pub(crate) fn input_line(alloc: Global, cfg: &Config, line: &[u8]) -> Result<Input, LineError>
-    requires { IsValidConfig cfg.now }
+pub(crate) fn input_line(
+    alloc: Global,
+    cfg: &Config,
+    line: &[u8],
+    plain: bool,
+) -> Result<Input, LineError>
+    requires valid { IsValidConfig cfg.now }
+    requires plain { IsTrue plain → IsTrue (is_printable line.now) }
     ensures { Says result (input_in cfg.now line.now) }
 {
-    if !is_printable(line) {
+    if !plain && !is_printable(line) {
         return Err(LineError::Refused(ScriptKind::Byte));
     }
     match next_word(line) {
@@ -194,20 +200,8 @@ fn node(cfg: &Config, word: &[u8]) -> Result<NodeId, ScriptKind>
     ensures { result ≡ node_in (nodes_of cfg.now) word.now }
 {
     match unspell(word) {
-        Some(node) if is_node(cfg, node) => Ok(node),
+        Some(node) if is_node_of(cfg, node) => Ok(node),
         _ => Err(ScriptKind::Node),
-    }
-}
-
-/// Whether the cluster has this node.
-fn is_node(cfg: &Config, node: NodeId) -> bool
-    ensures { IsTrue result ↔ IsNodeOf cfg.now node }
-{
-    match node {
-        NodeId::Seq(number) => number < cfg.seqs,
-        NodeId::Shard(number, _) => number < cfg.shards,
-        NodeId::Client(number) => usize::from(number) < cfg.homes.len(),
-        NodeId::Consumer(number) => number < cfg.consumers,
     }
 }
 

@@ -1,8 +1,11 @@
 //! The lines of a text that count, one after another.
 
-ghost use Rattle.std.specs.Prelude.{◌≡◌, ◌≤◌, ◌<◌, ◌==◌, [], ◌∷◌, length, take, ◌-◌, position, MatchOption, IfNone, IfSome};
+ghost use Rattle.std.specs.Prelude.{◌≡◌, ◌≤◌, ◌<◌, ◌==◌, [], ◌∷◌, length, take, ◌-◌, position, MatchOption, IsTrue, IfNone, IfSome};
+ghost use Rattle.std.specs.List.{list_all};
 ghost use Rattle.std.specs.Str.Lines.{lines, strip_carriage_return};
 ghost use Rattle.script_text.specs.Lines.{counts, whole, left_of, end_of};
+ghost use Rattle.script_text.specs.Words.{is_plain};
+ghost use Rattle.script_text.specs.Scripts.{ArePrintable};
 
 use std::marker::Model;
 
@@ -53,6 +56,14 @@ impl<'a> Lines<'a> {
         self.number
     }
 
+    /// Whether each byte that is left is printable or a newline: then each line is printable.
+    #[tactic(auto, unfolding(crate::specs::Lines::left_of))]
+    pub fn are_plain(&self) -> bool
+        ensures { IsTrue result → ArePrintable (left_of self.now) }
+    {
+        is_plain(self.rest)
+    }
+
     /// The next line that counts. At None the text is read, and `number` is that of the line after its last one.
     #[tactic(auto, unfolding(crate::specs::Lines::left_of, crate::specs::Lines::end_of))]
     pub fn next(&mut self) -> Option<Line<'a>>
@@ -73,6 +84,23 @@ impl<'a> Lines<'a> {
         }
         None
     }
+}
+
+/// Whether each byte is printable or a newline. It goes on behind one that is not, so that several are judged at a time.
+fn is_plain(text: &[u8]) -> bool
+    ensures { result ≡ list_all is_plain text.now }
+{
+    let mut plain = true;
+    for byte in text {
+        plain &= is_plain_byte(*byte);
+    }
+    plain
+}
+
+fn is_plain_byte(byte: u8) -> bool
+    ensures { result ≡ is_plain byte }
+{
+    (byte >= 0x20 && byte <= 0x7e) || byte == b'\n'
 }
 
 /// What stands in a text before a line, all of it where the text has fewer lines.

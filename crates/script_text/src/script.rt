@@ -34,7 +34,7 @@ pub struct Script {
 }
 
 /// Reads a script. A text is refused exactly where one of its lines is, with the first such line and the first kind that
-/// fits it. The text is gone through once.
+/// fits it. Its lines are gone through once.
 pub fn read_script(alloc: Global, text: &[u8]) -> Result<Script, ScriptError>
     requires { length text.now ≤ 16777216 }
     // What is read is what the text spells.
@@ -218,8 +218,9 @@ fn read_inputs(
 {
     let mut inputs = Listed::new(alloc);
     let mut numbers = Listed::new(alloc);
+    let plain = lines.are_plain();
     while let Some(line) = lines.next() {
-        inputs.push(at(line.number, input_line(alloc, cfg, line.bytes))?)?;
+        inputs.push(at(line.number, input_line(alloc, cfg, line.bytes, plain))?)?;
         numbers.push(line.number)?;
     }
     Ok((inputs, numbers))

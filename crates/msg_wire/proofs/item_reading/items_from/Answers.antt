@@ -19,8 +19,8 @@ pub loop-at-preserved : goal.loop-at-preserved
 loop-at-preserved c =
     let more : c.loop-at.at + 1 ≤ c.in_ok-item.after = item_advances c.args.bytes.now c.loop-at.at c.in_ok-item.item c.in_ok-item.after (λ i. omega (arith, c.type_inv.bytes i)) c.in_ok-item.ensures in
     record {
-      so_far = rw c.in_ok-push.ensures.ok (items_go_on c.loop-at.at c.loop-at.items c.args.bytes.now c.in_ok-item.item c.in_ok-item.after (items_from (length c.args.bytes.now - length c.args.earlier) c.args.earlier c.args.bytes.now c.args.start) c.loop-at.invariant.few c.loop-at-test.true c.in_ok-item.ensures c.loop-at.invariant.so_far);
-      few = omega (arith, ap length c.in_ok-push.ensures.ok, length-append c.loop-at.items (c.in_ok-item.item ∷ []), c.loop-at.invariant.few);
+      so_far = rw c.in_ok-keep.ensures.ok (items_go_on c.loop-at.at c.loop-at.items c.args.bytes.now c.in_ok-item.item c.in_ok-item.after (items_from (length c.args.bytes.now - length c.args.earlier) c.args.earlier c.args.bytes.now c.args.start) c.loop-at.invariant.few c.loop-at-test.true c.in_ok-item.ensures c.loop-at.invariant.so_far);
+      few = omega (arith, ap length c.in_ok-keep.ensures.ok, length-append c.loop-at.items (c.in_ok-item.item ∷ []), c.loop-at.invariant.few);
     }
 
 pub returns : goal.returns
