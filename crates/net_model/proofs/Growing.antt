@@ -118,7 +118,8 @@ entries-more c d from at (x ∷ ss) s g l h =
     let later = entries-more c d x.sends_end x.marks_end ss s g l h.1 in
     cc
 
-steps-more : (c d : Columns) (from at : ℕ) (ss : List KeptStep) (s : KeptStep) (g : Grew c d) → IsLast c d g s → AreStepsIn c from at ss → AreStepsIn d from at (ss ++ s ∷ [])
+steps-more : (c d : Columns) (from at : ℕ) (ss : List KeptStep) (s : KeptStep) (g : Grew c d) → IsLast c d g s → AreStepsIn c from at ss
+    → AreStepsIn d from at (ss ++ s ∷ [])
 steps-more c d from at [] s g l h = (
   record {
     taken = l.taken;
@@ -140,11 +141,13 @@ last : (c : Columns) (node : NodeId) (taken : Taken) (sends : List Message) (mar
     → IsLast c (with_step c node taken sends marks) (grew c node taken sends marks) (record { node = node; taken = taken; sends_end = length (c.messages ++ sends); marks_end = length (c.marks ++ marks) })
 last c node taken sends marks h = record { taken = taken-kept c (with_step c node taken sends marks) taken (grew c node taken sends marks) h; sends = refl; marks = refl }
 
-pub whole_put : (c d : Columns) (node : NodeId) (taken : Taken) (sends : List Message) (marks : List Mark) → IsWhole c → IsTakenIn c taken → d ≡ with_step c node taken sends marks → IsWhole d
+pub whole_put : (c d : Columns) (node : NodeId) (taken : Taken) (sends : List Message) (marks : List Mark) → IsWhole c → IsTakenIn c taken
+    → d ≡ with_step c node taken sends marks → IsWhole d
 whole_put c d node taken sends marks w h e =
     subst IsWhole (sym e) (steps-more c (with_step c node taken sends marks) 0 0 c.steps _ (grew c node taken sends marks) (last c node taken sends marks h) w)
 
-pub entries_put : (c d : Columns) (node : NodeId) (taken : Taken) (sends : List Message) (marks : List Mark) → IsWhole c → IsTakenIn c taken → d ≡ with_step c node taken sends marks
+pub entries_put : (c d : Columns) (node : NodeId) (taken : Taken) (sends : List Message) (marks : List Mark) → IsWhole c → IsTakenIn c taken
+    → d ≡ with_step c node taken sends marks
     → entries_of d ≡ entries_of c ++ record { node = node; event = event_in c taken; sends = sends; marks = marks } ∷ []
 entries_put c d node taken sends marks w h e =
     let g = grew c node taken sends marks in

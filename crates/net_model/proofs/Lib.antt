@@ -1,2 +1,10 @@
 pub mod Growing
 pub mod Reading
+pub mod SameNodes
+pub mod Results
+pub mod Journals
+pub mod Interleaving
+pub mod Orders
+pub mod Merging
+pub mod Histories
+pub mod Sources

@@ -39,7 +39,8 @@ step-at c from at [] index s e h = absurd (cc)
 step-at c from at (x ∷ ss) zero s e h = let same : x ≡ s = cc in subst (IsStepIn c from at) same h.0
 step-at c from at (x ∷ ss) (suc index) s e h = step-at c x.sends_end x.marks_end ss index s e h.1
 
-pub step_within : (c : Columns) (index : ℕ) (s : KeptStep) → slice_get c.steps index ≡ Some s → IsWhole c → IsStepIn c (sends_before 0 c.steps index) (marks_before 0 c.steps index) s
+pub step_within : (c : Columns) (index : ℕ) (s : KeptStep) → slice_get c.steps index ≡ Some s → IsWhole c
+    → IsStepIn c (sends_before 0 c.steps index) (marks_before 0 c.steps index) s
 step_within c index s e w = step-at c 0 0 c.steps index s e w
 
 -- a step's sends and marks begin where those of the one before it end

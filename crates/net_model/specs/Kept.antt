@@ -1,5 +1,5 @@
 -- A history as it is kept, in columns, and the entries that the columns tell.
-use Rattle.std.specs.Prelude.{◌≡◌, ℕ, zero, suc, ◌<◌, ◌≤◌, Option, Some, None, List, [], ◌∷◌, ◌++◌, length, slice_get, slice_range}
+use Rattle.std.specs.Prelude.{◌≡◌, ℕ, zero, suc, ◌<◌, ◌≤◌, List, [], ◌∷◌, ◌++◌, length, slice_get, slice_range}
 use Rattle.std.specs.Option.{unwrap_or, option_map_or}
 use Rattle.net_model.specs.declared.columns.Columns.{Columns}
 use Rattle.net_model.specs.declared.steps.KeptStep.{KeptStep}

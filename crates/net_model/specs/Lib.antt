@@ -1,4 +1,7 @@
 pub mod Kept
+pub mod Journals
+pub mod Merges
+pub mod Sources
 pub mod Entries
 pub mod Names
 pub mod Pasts

@@ -1,8 +1,8 @@
 -- The types that pasts and step tables speak of, and their variants: import from here.
-pub use Rattle.spec_base.specs.declared.node.NodeId.{NodeId}
-pub use Rattle.spec_base.specs.declared.node.NodeId.TheVariants as nodes
 pub use Rattle.msg_wire.specs.declared.message.Message.{Message}
 pub use Rattle.msg_wire.specs.declared.item.Item.{Item}
+pub use Rattle.msg_wire.specs.Names.{NodeId}
+pub use Rattle.msg_wire.specs.Names.nodes
 pub use Rattle.msg_wire.specs.declared.event.Event.{Event}
 pub use Rattle.msg_wire.specs.declared.event.Event.TheVariants as events
 pub use Rattle.msg_wire.specs.declared.mark.Mark.{Mark}

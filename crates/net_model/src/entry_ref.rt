@@ -118,7 +118,7 @@ impl<'a> EntryRef<'a> {
     }
 }
 
-fn copy_of_messages(alloc: Global, messages: &[Message]) -> Result<Messages, OutOfMemory>
+pub(crate) fn copy_of_messages(alloc: Global, messages: &[Message]) -> Result<Messages, OutOfMemory>
     ensures { IfOk result (λ copy. copy ≡ messages.now) }
 {
     let mut copy = Messages::new(alloc);
@@ -128,7 +128,7 @@ fn copy_of_messages(alloc: Global, messages: &[Message]) -> Result<Messages, Out
     Ok(copy)
 }
 
-fn copy_of_marks(alloc: Global, marks: &[Mark]) -> Result<Marks, OutOfMemory>
+pub(crate) fn copy_of_marks(alloc: Global, marks: &[Mark]) -> Result<Marks, OutOfMemory>
     ensures { IfOk result (λ copy. copy ≡ marks.now) }
 {
     let mut copy = Marks::new(alloc);

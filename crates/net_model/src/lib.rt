@@ -3,16 +3,23 @@
 //! - [`HistoryEntry`], [`History`]: one step of one node as it is seen from outside, and a run as the list of its steps.
 //! - [`EntryRef`]: an entry as it is read in a history.
 //! - [`NodeModel`]: a node as it is run, by a step table.
+//! - [`Stamped`], [`Journal`], [`merge`]: what a node wrote of its own steps, and the histories of several nodes in one.
+//! - [`laws`]: when a merge follows the step tables.
 #![tactic(auto)]
 
 mod columns;
 mod entry_ref;
 mod history;
+mod journal;
+pub mod laws;
+mod merges;
 mod model;
 mod steps;
 
 pub use entry_ref::EntryRef;
 pub use history::{History, HistoryEntry};
+pub use journal::{Journal, Stamped, nodes_are_distinct};
+pub use merges::merge;
 pub use model::NodeModel;
 
 #[cfg(test)]

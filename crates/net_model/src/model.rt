@@ -1,6 +1,6 @@
-ghost use Rattle.std.specs.Prelude.{◌≡◌, [], true, false, IfOk, OnOk, OnErr};
+ghost use Rattle.std.specs.Prelude.{◌≡◌, true, false, IfOk, OnOk, OnErr};
 ghost use Rattle.msg_wire.specs.Valid.{IsValidConfig, IsNodeOf, IsValidMessage, IsValidEvent, AreValidItems};
-ghost use Rattle.msg_wire.specs.Steps.{IsValidStep};
+ghost use Rattle.msg_wire.specs.Steps.{IsValidStep, empty_step};
 ghost use Rattle.net_model.specs.Names.events;
 
 use msg_wire::{Config, Event, Items, Message, Step};
@@ -70,7 +70,7 @@ pub trait NodeModel: Sized {
     fn step_into(&mut self, alloc: Global, event: &Event, out: &mut Step) -> Result<(), OutOfMemory>
         requires ready { is_spent self.old ≡ false }
         requires valid { IsValidEvent event.now }
-        requires empty { out.old ≡ record { stable = []; sends = []; marks = [] } }
+        requires empty { out.old ≡ empty_step }
         ensures gives { OnOk result (out.new ≡ gives self.old event.now) }
         ensures leaves { OnOk result (self.new ≡ leaves self.old event.now) }
         ensures valid { OnOk result (IsValidStep out.new) }
@@ -86,7 +86,7 @@ pub trait NodeModel: Sized {
     ) -> Result<(), OutOfMemory>
         requires ready { is_spent self.old ≡ false }
         requires valid { IsValidMessage message.now }
-        requires empty { out.old ≡ record { stable = []; sends = []; marks = [] } }
+        requires empty { out.old ≡ empty_step }
         ensures gives { OnOk result (out.new ≡ gives self.old (events.Deliver message.now)) }
         ensures leaves { OnOk result (self.new ≡ leaves self.old (events.Deliver message.now)) }
         ensures valid { OnOk result (IsValidStep out.new) }

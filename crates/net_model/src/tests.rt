@@ -7,6 +7,8 @@ use std::alloc::Global;
 use std::process::Abort;
 use std::test::Fail;
 
+mod merging;
+
 const C0: NodeId = NodeId::Client(0);
 
 const S0P: NodeId = NodeId::Shard(0, Side::Primary);

@@ -8,7 +8,8 @@ use Rattle.net_model.proofs.Reading.{entry_of_step, no_entry_of_step, step_withi
 use Rattle.net_model.proofs.columns.Columns.entry.Goals as goal
 
 -- the step at an index, within the columns
-within : (c : Columns) (index : ℕ) (s : KeptStep) (starts : ℕ × ℕ) → IsWhole c → slice_get c.steps index ≡ Some s → starts ≡ (sends_before 0 c.steps index, marks_before 0 c.steps index)
+within : (c : Columns) (index : ℕ) (s : KeptStep) (starts : ℕ × ℕ) → IsWhole c → slice_get c.steps index ≡ Some s
+    → starts ≡ (sends_before 0 c.steps index, marks_before 0 c.steps index)
     → IsStepIn c starts.0 starts.1 s
 within c index s starts w there e = subst (λ (p : ℕ × ℕ). IsStepIn c p.0 p.1 s) (sym e) (step_within c index s there w)
 
