@@ -5,3 +5,4 @@ pub mod Homes
 pub mod Sound
 pub mod Restarts
 pub mod Within
+pub mod Fits

@@ -32,12 +32,16 @@ pub data Says (n : Node ClientState) (event : Event) (s : Node ClientState) : No
   asks_fate : (to : NodeId) (i : ℕ) → slice_get (replicas_of s.own.home) i ≡ Some to → IsHomeGone s → Says n event s to (whats.AskFate s.own.first s.own.acked)
 
 pub data Shows (n : Node ClientState) (event : Event) (s : Node ClientState) : Mark → Type 0 where
-  acknowledged : (from : NodeId) (number position : ℕ) → Comes n event from (whats.Ack number position) → s.own.acked ≡ number + 1 → Shows n event s (marks.Ack number position)
+  acknowledged : (from : NodeId) (number position : ℕ) → Comes n event from (whats.Ack number position) → s.own.acked ≡ number + 1
+      → Shows n event s (marks.Ack number position)
 
 pub data Stores (n : Node ClientState) (event : Event) (s : Node ClientState) : Item → ClientState → Type 0 where
-  submits : (by : ℕ) (body : List ℕ) → event ≡ events.Submit by body → length s.own.bodies < 2 ^ 48 → Stores n event s (items.Submitted body) (with_body body s.own)
-  counts : (from : NodeId) (number position : ℕ) → Comes n event from (whats.Ack number position) → number ≡ s.own.acked → number < 2 ^ 48 → Stores n event s items.Acked (with_ack s.own)
-  moves : (from : NodeId) (next : ℕ) (row : Spot) → Comes n event from (whats.Fate next) → number_of from ≡ s.own.home → IsHomeGone s → next ≡ s.own.acked → IsRowFor s row
+  submits : (by : ℕ) (body : List ℕ) → event ≡ events.Submit by body → length s.own.bodies < 2 ^ 48
+      → Stores n event s (items.Submitted body) (with_body body s.own)
+  counts : (from : NodeId) (number position : ℕ) → Comes n event from (whats.Ack number position) → number ≡ s.own.acked → number < 2 ^ 48
+      → Stores n event s items.Acked (with_ack s.own)
+  moves : (from : NodeId) (next : ℕ) (row : Spot) → Comes n event from (whats.Fate next) → number_of from ≡ s.own.home → IsHomeGone s → next ≡ s.own.acked
+      → IsRowFor s row
       → Stores n event s (items.Moved row.shard next) (with_home row.shard next s.own)
 
 abbrev pub client_places : Places ClientState

@@ -1,7 +1,7 @@
 -- The items that a client's steps store lead to what a restart leaves.
-use Rattle.std.proofs.Common.{◌≡◌, ◌<◌, ◌^◌, Bool, true, false, if◌then◌else◌, List, [], ◌∷◌, ◌++◌, refl, ap, sym, subst, ◌∙◌, arith}
+use Rattle.std.proofs.Common.{◌≡◌, ◌<◌, ◌^◌, List, [], ◌∷◌, ◌++◌, refl, ap, sym, ◌∙◌, arith}
 use Rattle.std.specs.List.{AllByRecursion, fold}
-use Rattle.std.proofs.lemmas.Bool.{lt-ltb}
+use Rattle.std.proofs.lemmas.Bool.{lt-ltb, cond-true}
 use Rattle.std.proofs.lemmas.Grind.{fold-append}
 use Rattle.msg_wire.specs.Valid.{IsValidEvent}
 use Rattle.node_rules.specs.Names.{NodeId, Config, Item, Event}
@@ -23,16 +23,14 @@ abbrev Leads : Node ClientState → Turn ClientState → Type 0
 Leads n t = fold fit (reset_of n) t.stable ≡ reset_of t.state
 
 -- one item more
-one_more : (n u : Node ClientState) (item : Item) (t : Turn ClientState) → Leads n t → fit (reset_of t.state) item ≡ reset_of u → fold fit (reset_of n) (t.stable ++ item ∷ []) ≡ reset_of u
+one_more : (n u : Node ClientState) (item : Item) (t : Turn ClientState) → Leads n t → fit (reset_of t.state) item ≡ reset_of u
+    → fold fit (reset_of n) (t.stable ++ item ∷ []) ≡ reset_of u
 one_more n u item t h e = fold-append fit (reset_of n) t.stable (item ∷ []) ∙ (ap (λ (m : Node ClientState). fit m item) h ∙ e)
 
-taken : {A : Type 0} (b : Bool) (x y : A) → b ≡ true → (if b then x else y) ≡ x
-taken true x y e = refl
-taken false x y e = cc
-
-fits_stored : (n : Node ClientState) (event : Event) (s : Node ClientState) (item : Item) (own : ClientState) → Stores n event s item own → fit (reset_of s) item ≡ reset_of (with_own own s)
-fits_stored n event s _ _ (submits by body submit room) = taken _ _ _ (lt-ltb _ _ room)
-fits_stored n event s _ _ (counts from number position comes next room) = let low : s.own.acked < 2 ^ 48 = omega (arith, next, room) in taken _ _ _ (lt-ltb _ _ low)
+fits_stored : (n : Node ClientState) (event : Event) (s : Node ClientState) (item : Item) (own : ClientState) → Stores n event s item own
+    → fit (reset_of s) item ≡ reset_of (with_own own s)
+fits_stored n event s _ _ (submits by body submit room) = cond-true _ _ _ (lt-ltb _ _ room)
+fits_stored n event s _ _ (counts from number position comes next room) = let low : s.own.acked < 2 ^ 48 = omega (arith, next, room) in cond-true _ _ _ (lt-ltb _ _ low)
 fits_stored n event s _ _ (moves from next row comes home gone next_is row_is) = refl
 
 step_leads : (n : Node ClientState) (event : Event) → IsValidEvent event → Leads n (client_step n event)
@@ -40,7 +38,7 @@ step_leads n event valid =
     let sites : Sites client_places (Leads n) n event = record {
       starts = refl;
       restarts = λ e. refl;
-      learns = λ t entry told leads. one_more n (with_base (knowing entry t.state.base) t.state) (items.Known entry) t leads (taken _ _ _ (told_valid n event t.state entry told valid).1);
+      learns = λ t entry told leads. one_more n (with_base (knowing entry t.state.base) t.state) (items.Known entry) t leads (cond-true _ _ _ (told_valid n event t.state entry told valid).1);
       sees = λ t from slot count entry comes leads. leads;
       ticks = λ t e leads. leads;
       asks = λ t to why leads. leads;

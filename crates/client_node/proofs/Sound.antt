@@ -1,27 +1,20 @@
 -- Steps of a sound client: it stays one, and what it stores and sends is valid.
-use Rattle.std.proofs.Common.{◌≡◌, ℕ, ◌+◌, ◌<◌, ◌≤◌, ◌^◌, List, [], ◌∷◌, length, length-append, Some, sym, subst, arith}
-use Rattle.std.specs.List.{AllByRecursion, slice_get}
+use Rattle.std.proofs.Common.{◌≡◌, ◌≤◌, ◌^◌, [], ◌∷◌, length-append, sym, subst, arith}
 use Rattle.std.proofs.lemmas.Option.{slice_get_within}
-use Rattle.record_codec.specs.Entries.{IsValidEntry}
 use Rattle.spec_base.specs.Spelling.{IsValidNode}
-use Rattle.fix_ante.specs.declared.spots.Spot.{Spot}
-use Rattle.fix_ante.specs.Windows.{IsWindow}
-use Rattle.cut_core.specs.Fold.{HasValidTable}
-use Rattle.cut_core.proofs.Sound.{IsSound-fold_of}
 use Rattle.msg_wire.specs.Nodes.{number_of, replicas_of}
 use Rattle.msg_wire.specs.Valid.{IsValidConfig, IsNodeOf, IsValidItem, IsValidWhat, IsValidEvent, IsBody}
 use Rattle.msg_wire.specs.Steps.{IsValidStep}
-use Rattle.node_rules.specs.Names.{NodeId, Config, Entry, Item, What, Event, Step}
+use Rattle.node_rules.specs.Names.{NodeId, Config, Item, What, Event, Step}
 use Rattle.node_rules.specs.Names.events
-use Rattle.node_rules.specs.Bases.{Base, agreed_by}
+use Rattle.node_rules.specs.Bases.{agreed_by}
 use Rattle.node_rules.specs.Nodes.{Node, with_own}
-use Rattle.node_rules.specs.Sound.{IsBase}
 use Rattle.node_rules.specs.Turns.{turn_of}
 use Rattle.node_rules.proofs.Lists.{all_push, all_at}
-use Rattle.node_rules.proofs.Kept.{told_valid, Keeping, IsKept, IsLife, Keeps, keeping, lives, kept_valid}
+use Rattle.node_rules.proofs.Kept.{told_valid, Keeping, IsKept, Keeps, keeping, lives, kept_valid}
 use Rattle.node_rules.proofs.Limits.{agreed_sound, base_fresh, base_reset}
 use Rattle.client_node.specs.States.{ClientState}
-use Rattle.client_node.specs.Sound.{IsClient, IsClientNode}
+use Rattle.client_node.specs.Sound.{IsClient}
 use Rattle.client_node.specs.Steps.{client_step}
 use Rattle.client_node.specs.Restart.{fit, fresh_node}
 use Rattle.client_node.specs.Laws.{client_life, StepsAreValid}
@@ -35,16 +28,17 @@ abbrev Goes : NodeId → What → Type 0
 Goes to what = IsValidNode to × IsValidWhat what
 
 -- what restarts leave stands beside it
-abbrev client_keeping : Keeping ClientState
-client_keeping = record { Is = IsClientNode; fit = fit; Leads = λ a s. Unit {0} }
+abbrev pub client_keeping : Keeping ClientState
+client_keeping = record { Is = IsClient; fit = fit; Leads = λ a s. Unit {0} }
 
 module _ (n : Node ClientState) (event : Event) (valid : IsValidEvent event) where
-  says_valid : (s : Node ClientState) (to : NodeId) (what : What) → Says n event s to what → IsClientNode s → Goes to what
+  says_valid : (s : Node ClientState) (to : NodeId) (what : What) → Says n event s to what → IsClient s → Goes to what
   says_valid s _ _ (sends_body number body from below at) is =
       (is.own.home, (is.own.first, omega (arith, slice_get_within s.own.bodies number body at, is.own.few), all_at IsBody s.own.bodies number body is.own.bodies at))
   says_valid s to _ (asks_fate _ i there gone) is = (all_at IsValidNode (replicas_of s.own.home) i to (is.own.home, (is.own.home, tt)) there, (is.own.first, is.own.acked))
 
-  stores_valid : (s : Node ClientState) (item : Item) (own : ClientState) → Stores n event s item own → IsClientNode s → IsValidItem item × IsClientNode (with_own own s)
+  stores_valid : (s : Node ClientState) (item : Item) (own : ClientState) → Stores n event s item own → IsClient s
+      → IsValidItem item × IsClient (with_own own s)
   stores_valid s _ _ (submits by body submit room) is =
       let submitted : IsValidEvent (events.Submit by body) = subst IsValidEvent submit valid in (
         submitted.1,
@@ -86,14 +80,15 @@ module _ (n : Node ClientState) (event : Event) (valid : IsValidEvent event) whe
 
 -- ---- steps and lives
 
-pub step_sound : (n : Node ClientState) (event : Event) → IsClientNode n → IsValidEvent event → IsKept client_keeping n (client_step n event)
+pub step_sound : (n : Node ClientState) (event : Event) → IsClient n → IsValidEvent event → IsKept client_keeping n (client_step n event)
 step_sound n event is valid = client_walk (IsKept client_keeping n) n event (keeping client_places client_keeping n event (client_keeps n event valid) valid is)
 
 -- what a step gives is valid
-pub step-valid : (n m : Node ClientState) (event : Event) (out : Step) → IsClientNode n → IsValidEvent event → turn_of m out ≡ client_step n event → IsValidStep out
+pub step-valid : (n m : Node ClientState) (event : Event) (out : Step) → IsClient n → IsValidEvent event → turn_of m out ≡ client_step n event
+    → IsValidStep out
 step-valid n m event out is valid e = kept_valid client_keeping n (turn_of m out) (subst (IsKept client_keeping n) (sym e) (step_sound n event is valid))
 
-fresh_sound : (cfg : Config) (me : NodeId) → IsValidConfig cfg → IsNodeOf cfg me → IsClientNode (fresh_node cfg me)
+pub fresh_sound : (cfg : Config) (me : NodeId) → IsValidConfig cfg → IsNodeOf cfg me → IsClient (fresh_node cfg me)
 fresh_sound cfg me valid here = record {
   base = base_fresh cfg me valid here;
   own = record { bodies = tt; few = omega arith; acked = omega arith; home = home-small cfg (number_of me) valid; first = omega arith };

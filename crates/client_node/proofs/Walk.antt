@@ -1,11 +1,10 @@
 -- A client's whole step is made of the places of its table.
-use Rattle.std.proofs.Common.{◌≡◌, ℕ, ◌+◌, ◌<◌, ◌≤◌, ◌^◌, ◌==◌, ◌&&◌, not, nat_lt, true, List, Some, refl, sym, subst, ◌∙◌, arith}
+use Rattle.std.proofs.Common.{◌≡◌, ℕ, ◌+◌, ◌<◌, ◌≤◌, ◌^◌, ◌==◌, ◌&&◌, not, nat_lt, List, refl, sym, subst, ◌∙◌, arith}
 use Rattle.std.specs.Prelude.{nat_le}
 use Rattle.std.specs.List.{slice_get}
 use Rattle.std.proofs.lemmas.Bool.{and_parts, ltb-true, leb-true, eqb-true}
-use Rattle.cut_core.specs.Agreements.{Agreement}
 use Rattle.msg_wire.specs.Nodes.{number_of}
-use Rattle.node_rules.specs.Names.{NodeId, Entry, What, Event}
+use Rattle.node_rules.specs.Names.{NodeId, What, Event}
 use Rattle.node_rules.specs.Names.nodes
 use Rattle.node_rules.specs.Names.sides
 use Rattle.node_rules.specs.Names.items
@@ -19,7 +18,7 @@ use Rattle.node_rules.proofs.Lists.{on_test, on_option, on_range}
 use Rattle.node_rules.proofs.Places.{Comes, Sites}
 use Rattle.node_rules.proofs.Walks.{walk_sends, WalksLearned, walk_decided, walk_tick, walk_heed}
 use Rattle.client_node.specs.States.{ClientState, count_submitted, home_replicas, is_home_gone, reach, is_in_reach}
-use Rattle.client_node.specs.Rules.{append, append_all, ask_fate, with_body, append_new, submit, with_ack, go_on, hear_ack, on_learned, with_home, row_for, move_to, may_move, hear_fate, send_again, on_tick}
+use Rattle.client_node.specs.Rules.{append, append_all, ask_fate, with_body, submit, with_ack, hear_ack, on_learned, row_for, move_to, may_move, hear_fate, on_tick}
 use Rattle.client_node.specs.Steps.{hear, client_step}
 use Rattle.client_node.proofs.Places.{IsHomeGone, sends_body, asks_fate, acknowledged, submits, counts, moves, client_places}
 
@@ -62,7 +61,8 @@ module _ {W : Turn ClientState → Type 0} {n : Node ClientState} {event : Event
       (λ _. kept))
       (λ _. w)
 
-  walk_ack : (from : NodeId) (number position : ℕ) (t : Turn ClientState) → Comes n event from (whats.Ack number position) → W t → W (hear_ack number position t)
+  walk_ack : (from : NodeId) (number position : ℕ) (t : Turn ClientState) → Comes n event from (whats.Ack number position) → W t
+      → W (hear_ack number position t)
   walk_ack from number position t comes w =
       on_test W ((number == (own_of t).acked) && nat_lt number (2 ^ 48)) _ t
       (λ fits.

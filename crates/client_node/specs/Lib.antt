@@ -4,4 +4,4 @@ pub mod Rules
 pub mod Steps
 pub mod Restart
 pub mod Laws
-pub mod Rows
+pub mod Worked

@@ -7,13 +7,13 @@ use Rattle.node_rules.specs.Sound.{IsBase}
 use Rattle.client_node.specs.States.{ClientState}
 
 -- its bodies, its counts and its home are within their limits
-pub record IsClient (s : ClientState) : Type 0 where
+pub record IsOwn (s : ClientState) : Type 0 where
   pub bodies : AllByRecursion IsBody s.bodies
   pub few : length s.bodies ≤ 2 ^ 48
   pub acked : s.acked ≤ 2 ^ 48
   pub home : s.home ≤ 5
   pub first : s.first ≤ 2 ^ 48
 
-pub record IsClientNode (n : Node ClientState) : Type 0 where
+pub record IsClient (n : Node ClientState) : Type 0 where
   pub base : IsBase n.base
-  pub own : IsClient n.own
+  pub own : IsOwn n.own

@@ -16,10 +16,15 @@ hear from (whats.Ack number position) t = hear_ack number position t
 hear from (whats.Fate next) t = hear_fate from next t
 hear from _ t = t
 
--- the step of each event
+-- what an event does by itself; a restart is no such event
+abbrev pub handle : Event → Turn ClientState → Turn ClientState
+handle (events.Submit by body) t = submit body t
+handle (events.Deliver message) t = heed hear message t
+handle events.Tick t = on_tick t
+handle events.Restart t = t
+handle (events.Command command) t = t
+
+-- the step of each event; nothing else ends it
 abbrev pub client_step : Node ClientState → Event → Turn ClientState
-client_step n (events.Submit by body) = submit body (started n)
-client_step n (events.Deliver message) = heed hear message (started n)
-client_step n events.Tick = on_tick (started n)
 client_step n events.Restart = started (reset_of n)
-client_step n (events.Command command) = started n
+client_step n event = handle event (started n)

@@ -5,15 +5,17 @@
 //! give. The laws of a client's life stand in [`laws`].
 #![tactic(auto)]
 
-mod client;
 pub mod laws;
-mod own;
+mod node;
 mod restart;
-mod rows;
 mod rules;
 mod sends;
+mod state;
+mod steps;
 #[cfg(test)]
 mod tests;
+mod worked;
 
-pub use client::ClientNode;
-pub use rows::rows_compute;
+pub use node::{ClientNode, ReadClient};
+pub use state::ClientOwn;
+pub use worked::worked_compute;

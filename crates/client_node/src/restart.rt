@@ -3,22 +3,18 @@
 ghost use Rattle.std.specs.Prelude.{◌≡◌, IfOk, OnOk, IsTrue};
 ghost use Rattle.msg_wire.specs.Nodes.{is_client};
 ghost use Rattle.msg_wire.specs.Valid.{IsValidConfig, IsNodeOf, IsValidItem, AreValidItems};
-ghost use Rattle.client_node.specs.Restart.{fresh_node, fit, fit_body, fit_ack, restart_of};
+ghost use Rattle.client_node.specs.Restart.{fresh_node, fit, fit_body, fit_ack, restart_of, reset_of};
 
-use crate::own::{ClientOwn, MOST_NUMBERS};
-use msg_wire::{Config, Item, Items};
-use node_rules::{Node, NodeBase, number_of};
+use crate::state::{Client, ClientOwn, MOST_NUMBERS};
+use msg_wire::{Config, Item, Items, number_of};
+use node_rules::{Node, NodeBase};
 use quota_table::OutOfMemory;
 use record_codec::Body;
 use spec_base::NodeId;
 use std::alloc::Global;
 
 /// A client at the home that the cluster gives it.
-pub(crate) fn fresh_node(
-    alloc: Global,
-    cfg: &Config,
-    node: NodeId,
-) -> Result<Node<ClientOwn>, OutOfMemory>
+pub(crate) fn fresh(alloc: Global, cfg: &Config, node: NodeId) -> Result<Client, OutOfMemory>
     requires valid { IsValidConfig cfg.now }
     requires node { IsNodeOf cfg.now node }
     requires client { IsTrue (is_client node) }
@@ -31,28 +27,15 @@ pub(crate) fn fresh_node(
     })
 }
 
-/// What the items alone give; one that does not fit is passed over.
-pub(crate) fn restart_of(
-    alloc: Global,
-    cfg: &Config,
-    node: NodeId,
-    items: &[Item],
-) -> Result<Node<ClientOwn>, OutOfMemory>
-    requires valid { IsValidConfig cfg.now }
-    requires node { IsNodeOf cfg.now node }
-    requires client { IsTrue (is_client node) }
-    requires items { AreValidItems items.now }
-    ensures { IfOk result (λ client. client ≡ restart_of cfg.now node items.now) }
+/// Forgets what a restart forgets: what the client was told of, and the ticks.
+pub(crate) fn reset(client: &mut Client)
+    ensures { client.new ≡ reset_of client.old }
 {
-    let mut client = fresh_node(alloc, cfg, node)?;
-    for item in items {
-        fit(&mut client, item)?;
-    }
-    Ok(client)
+    client.base.reset();
 }
 
 /// Takes one more item, where it fits.
-fn fit(client: &mut Node<ClientOwn>, item: &Item) -> Result<(), OutOfMemory>
+pub(crate) fn fit(client: &mut Client, item: &Item) -> Result<(), OutOfMemory>
     requires { IsValidItem item.now }
     ensures { OnOk result (client.new ≡ fit client.old item.now) }
 {
@@ -71,7 +54,7 @@ fn fit(client: &mut Node<ClientOwn>, item: &Item) -> Result<(), OutOfMemory>
     }
 }
 
-fn fit_body(client: &mut Node<ClientOwn>, body: &Body) -> Result<(), OutOfMemory>
+fn fit_body(client: &mut Client, body: &Body) -> Result<(), OutOfMemory>
     ensures { OnOk result (client.new ≡ fit_body body.now client.old) }
 {
     if client.own.count() < MOST_NUMBERS {
@@ -80,7 +63,7 @@ fn fit_body(client: &mut Node<ClientOwn>, body: &Body) -> Result<(), OutOfMemory
     Ok(())
 }
 
-fn fit_ack(client: &mut Node<ClientOwn>)
+fn fit_ack(client: &mut Client)
     ensures { client.new ≡ fit_ack client.old }
 {
     if client.own.acked() < MOST_NUMBERS {

@@ -1,7 +1,7 @@
 //! A client's rules, one for each event and kind of message.
 
 ghost use Rattle.std.specs.Prelude.{◌≡◌, ◌<◌, ◌≤◌, ◌^◌, OnOk, IfSome, if◌then◌else◌};
-ghost use Rattle.record_codec.specs.Entries.{IsValidEntry};
+ghost use Rattle.quota_table.specs.Entries.{IsValidEntry};
 ghost use Rattle.msg_wire.specs.Valid.{IsSlot, IsValidWhat};
 ghost use Rattle.node_rules.specs.Rules.{decided};
 ghost use Rattle.node_rules.specs.Turns.{turn_of, started};
@@ -10,21 +10,16 @@ ghost use Rattle.client_node.specs.States.{is_home_gone};
 ghost use Rattle.client_node.specs.Rules.{ask_fate};
 ghost use Rattle.client_node.specs.Steps.{hear};
 
-use crate::own::{ClientOwn, MOST_NUMBERS};
 use crate::sends::{append, append_all, ask_fate, is_home_gone, reach};
+use crate::state::{Client, MOST_NUMBERS};
 use fix_ante::Spot;
-use msg_wire::{Item, Mark, Step, What};
-use node_rules::{Node, number_of};
+use msg_wire::{Item, Mark, Step, What, number_of};
 use quota_table::{Entry, OutOfMemory};
 use record_codec::Body;
 use spec_base::NodeId;
 
 /// A body is submitted: it is stored, and sent at once where its number is in reach, while the home is there.
-pub(crate) fn submit(
-    client: &mut Node<ClientOwn>,
-    body: &Body,
-    out: &mut Step,
-) -> Result<(), OutOfMemory>
+pub(crate) fn submit(client: &mut Client, body: &Body, out: &mut Step) -> Result<(), OutOfMemory>
     ensures { OnOk result (turn_of client.new out.new ≡ submit body.now (turn_of client.old out.old)) }
 {
     let number = client.own.count();
@@ -42,7 +37,7 @@ pub(crate) fn submit(
 }
 
 /// Sends the body of a number in reach, while the home is there.
-fn append_new(client: &Node<ClientOwn>, number: u64, out: &mut Step) -> Result<(), OutOfMemory>
+fn append_new(client: &Client, number: u64, out: &mut Step) -> Result<(), OutOfMemory>
     ensures { OnOk result (turn_of client.now out.new ≡ append_new number (turn_of client.now out.old)) }
 {
     let acked = client.own.acked();
@@ -53,48 +48,8 @@ fn append_new(client: &Node<ClientOwn>, number: u64, out: &mut Step) -> Result<(
     }
 }
 
-/// What a message says that the client takes.
-pub(crate) fn hear(
-    client: &mut Node<ClientOwn>,
-    from: NodeId,
-    what: &What,
-    out: &mut Step,
-) -> Result<(), OutOfMemory>
-    requires { IsValidWhat what.now }
-    ensures { OnOk result (turn_of client.new out.new ≡ hear from what.now (turn_of client.old out.old)) }
-{
-    match what {
-        What::Decided { slot, count, entry } => decided(client, from, *slot, *count, entry, out),
-        What::Ack { number, position } => hear_ack(client, *number, *position, out),
-        What::Fate { next } => hear_fate(client, from, *next, out),
-        _ => Ok(()),
-    }
-}
-
-/// A sequencer tells the entry of a slot, and how many it knows.
-fn decided(
-    client: &mut Node<ClientOwn>,
-    from: NodeId,
-    slot: u32,
-    count: u32,
-    entry: &Entry,
-    out: &mut Step,
-) -> Result<(), OutOfMemory>
-    requires slot { IsSlot slot }
-    requires count { count ≤ 1000000 }
-    requires entry { IsValidEntry entry.now }
-    ensures { OnOk result (turn_of client.new out.new ≡ decided on_learned_of from slot count entry.now (turn_of client.old out.old)) }
-{
-    client.base.see(count);
-    if slot == client.base.count() {
-        let _effect = client.learn(entry, out)?;
-        on_learned(client, out)?;
-    }
-    client.ask_on(from, out)
-}
-
 /// After each learned entry while the home is gone, the fate of the records is asked for.
-fn on_learned(client: &Node<ClientOwn>, out: &mut Step) -> Result<(), OutOfMemory>
+pub(crate) fn on_learned(client: &Client, out: &mut Step) -> Result<(), OutOfMemory>
     ensures { OnOk result (turn_of client.now out.new ≡ (if is_home_gone (turn_of client.now out.old) then ask_fate (turn_of client.now out.old) else turn_of client.now out.old)) }
 {
     if is_home_gone(client) {
@@ -105,8 +60,8 @@ fn on_learned(client: &Node<ClientOwn>, out: &mut Step) -> Result<(), OutOfMemor
 }
 
 /// A record is covered: it is acknowledged where its number is the least without an acknowledgement.
-fn hear_ack(
-    client: &mut Node<ClientOwn>,
+pub(crate) fn hear_ack(
+    client: &mut Client,
     number: u64,
     position: u64,
     out: &mut Step,
@@ -123,7 +78,7 @@ fn hear_ack(
 }
 
 /// After an acknowledged number the one that comes into reach is sent, or the fate of the rest asked for.
-fn go_on(client: &Node<ClientOwn>, number: u64, out: &mut Step) -> Result<(), OutOfMemory>
+fn go_on(client: &Client, number: u64, out: &mut Step) -> Result<(), OutOfMemory>
     requires { number < 2 ^ 48 }
     ensures { OnOk result (turn_of client.now out.new ≡ go_on number (turn_of client.now out.old)) }
 {
@@ -136,8 +91,8 @@ fn go_on(client: &Node<ClientOwn>, number: u64, out: &mut Step) -> Result<(), Ou
 
 /// A replica of the home tells the client's next number: the client moves, where its home is gone and all numbers
 /// below that one are acknowledged.
-fn hear_fate(
-    client: &mut Node<ClientOwn>,
+pub(crate) fn hear_fate(
+    client: &mut Client,
     from: NodeId,
     next: u64,
     out: &mut Step,
@@ -154,7 +109,7 @@ fn hear_fate(
 }
 
 /// The row of the current window that is the client's by its number.
-fn row_for(client: &Node<ClientOwn>) -> Option<Spot>
+fn row_for(client: &Client) -> Option<Spot>
     ensures row { result ≡ row_for (started client.now) }
     ensures shard { IfSome result (λ row. row.shard ≤ 5) }
 {
@@ -164,12 +119,7 @@ fn row_for(client: &Node<ClientOwn>) -> Option<Spot>
 }
 
 /// The client moves: the new home is stored, and each submitted body in reach is sent there.
-fn move_to(
-    client: &mut Node<ClientOwn>,
-    first: u64,
-    row: Spot,
-    out: &mut Step,
-) -> Result<(), OutOfMemory>
+fn move_to(client: &mut Client, first: u64, row: Spot, out: &mut Step) -> Result<(), OutOfMemory>
     requires first { first ≤ 2 ^ 48 }
     requires shard { row.shard ≤ 5 }
     ensures { OnOk result (turn_of client.new out.new ≡ move_to first row (turn_of client.old out.old)) }
@@ -187,14 +137,14 @@ fn move_to(
 
 /// Time passes: the next entry is asked for, and the fate of the records where the home is gone, else what is in reach
 /// is sent once more.
-pub(crate) fn on_tick(client: &mut Node<ClientOwn>, out: &mut Step) -> Result<(), OutOfMemory>
+pub(crate) fn on_tick(client: &mut Client, out: &mut Step) -> Result<(), OutOfMemory>
     ensures { OnOk result (turn_of client.new out.new ≡ on_tick (turn_of client.old out.old)) }
 {
     client.tick(out)?;
     send_again(client, out)
 }
 
-fn send_again(client: &Node<ClientOwn>, out: &mut Step) -> Result<(), OutOfMemory>
+fn send_again(client: &Client, out: &mut Step) -> Result<(), OutOfMemory>
     ensures { OnOk result (turn_of client.now out.new ≡ send_again (turn_of client.now out.old)) }
 {
     if is_home_gone(client) {

@@ -5,9 +5,8 @@ ghost use Rattle.node_rules.specs.Turns.{turn_of, started};
 ghost use Rattle.client_node.specs.States.{is_home_gone, reach};
 ghost use Rattle.client_node.specs.Rules.{append, append_all, ask_fate};
 
-use crate::own::ClientOwn;
+use crate::state::Client;
 use msg_wire::{Step, What};
-use node_rules::Node;
 use quota_table::OutOfMemory;
 use spec_base::{NodeId, Side};
 
@@ -24,18 +23,14 @@ pub(crate) fn reach() -> u64
 }
 
 /// Whether the known entries say that the client's home is gone.
-pub(crate) fn is_home_gone(client: &Node<ClientOwn>) -> bool
+pub(crate) fn is_home_gone(client: &Client) -> bool
     ensures { result ≡ is_home_gone (started client.now) }
 {
     client.base.agreed().gone(client.own.home()).is_some()
 }
 
 /// Sends the body of a number to the home's primary, where it was submitted.
-pub(crate) fn append(
-    client: &Node<ClientOwn>,
-    number: u64,
-    out: &mut Step,
-) -> Result<(), OutOfMemory>
+pub(crate) fn append(client: &Client, number: u64, out: &mut Step) -> Result<(), OutOfMemory>
     ensures { OnOk result (turn_of client.now out.new ≡ append (turn_of client.now out.old) number) }
 {
     let Some(body) = client.own.body(number) else {
@@ -50,7 +45,7 @@ pub(crate) fn append(
 }
 
 /// Sends each submitted body in reach.
-pub(crate) fn append_all(client: &Node<ClientOwn>, out: &mut Step) -> Result<(), OutOfMemory>
+pub(crate) fn append_all(client: &Client, out: &mut Step) -> Result<(), OutOfMemory>
     ensures { OnOk result (turn_of client.now out.new ≡ append_all (turn_of client.now out.old)) }
 {
     let acked = client.own.acked();
@@ -61,7 +56,7 @@ pub(crate) fn append_all(client: &Node<ClientOwn>, out: &mut Step) -> Result<(),
 }
 
 /// Asks both replicas of a home that is gone what became of the records.
-pub(crate) fn ask_fate(client: &Node<ClientOwn>, out: &mut Step) -> Result<(), OutOfMemory>
+pub(crate) fn ask_fate(client: &Client, out: &mut Step) -> Result<(), OutOfMemory>
     ensures { OnOk result (turn_of client.now out.new ≡ ask_fate (turn_of client.now out.old)) }
 {
     let what = What::AskFate {

@@ -1,75 +1,51 @@
-//! Lives of a client as tables: what comes, and beside it what the step gives.
+//! Lives of clients as texts: what comes, and behind it what the step gives.
 
-ghost use Rattle.std.specs.Prelude.{◌≡◌, false, IsTrue, OnOk};
-ghost use Rattle.spec_base.specs.Spelling.{IsValidNode};
-ghost use Rattle.msg_wire.specs.Nodes.{is_client};
-ghost use Rattle.msg_wire.specs.Valid.{IsNodeOf, IsValidConfig, IsValidEvent};
-
-use crate::ClientNode;
-use life_tables::{Turn, event, told};
-use msg_wire::{Config, Event};
+use crate::{ClientNode, ReadClient};
+use life_tables::{Lives, lived};
+use msg_wire::{Config, Event, Items, Step};
+use quota_table::OutOfMemory;
 use spec_base::NodeId;
-use std::alloc::Global;
-use std::process::Abort;
+use std::alloc::{AllocError, Global};
+use std::fmt::Write;
 use std::test::Fail;
 
 mod lives;
 mod rules;
 
-/// Takes a step, which gives what is wanted.
-fn take(
-    rt: &impl Abort,
-    alloc: Global,
-    client: &mut ClientNode,
-    event: &Event,
-    want: &str,
-) -> Result<(), Fail>
-    requires whole { client.old.spent ≡ false }
-    requires valid { IsValidEvent event.now }
-    ensures { OnOk result (client.new.spent ≡ false) }
-{
-    let step = client.step(alloc, event)?;
-    let told = told(alloc, &step)?;
-    assert_eq!(rt; told.as_str(), want);
-    Ok(())
+/// A client that lives so.
+#[derive(Drop)]
+struct Lived(ClientNode);
+
+impl Lives for Lived {
+    ghost use Rattle.std.specs.Prelude.{◌≡◌, false};
+
+    ghost is_ready = { λ lived. lived.0.spent ≡ false };
+
+    fn born(alloc: Global, cfg: &Config, me: NodeId, items: &Items) -> Result<Lived, Fail> {
+        match me {
+            NodeId::Client(_) if items.is_empty() => Ok(Lived(ClientNode::new(alloc, cfg, me)?)),
+            NodeId::Client(_) => Ok(Lived(ClientNode::restart(alloc, cfg, me, items)?)),
+            _ => Err("no client".into()),
+        }
+    }
+
+    fn take(&mut self, alloc: Global, event: &Event) -> Result<Step, OutOfMemory> {
+        self.0.step(alloc, event)
+    }
+
+    fn tell(&self, text: &mut String) -> Result<(), AllocError> {
+        let (home, acked, known) = (self.0.home(), self.0.acked(), self.0.known().count());
+        write!(text, "home {home}, {acked} acknowledged, {known} known")
+    }
 }
 
-/// Takes these turns, each of which gives what stands in it.
-fn live(
-    rt: &impl Abort,
-    alloc: Global,
-    client: &mut ClientNode,
-    me: NodeId,
-    turns: &[Turn],
-) -> Result<(), Fail>
-    requires whole { client.old.spent ≡ false }
-    requires me { IsValidNode me }
-    ensures { OnOk result (client.new.spent ≡ false) }
-{
-    for (from, comes, want) in turns {
-        let event = event(alloc, me, from, comes)?;
-        take(rt, alloc, client, &event, want)?;
+#[test]
+fn clients_live_by_the_tables(rt: HostRuntime) -> Result<(), Fail> {
+    for lives in [rules::LIVES, lives::LIVES] {
+        for life in lives {
+            let (told, text) = lived::<Lived>(rt.alloc(), life)?;
+            assert_eq!(rt; told, text);
+        }
     }
     Ok(())
-}
-
-/// The home, how many bodies are acknowledged, and how many entries are known.
-type Counts = (u8, u64, u32);
-
-/// A client that knows nothing takes these turns, and stands so then.
-fn life(
-    rt: &impl Abort,
-    alloc: Global,
-    cfg: &Config,
-    me: NodeId,
-    turns: &[Turn],
-) -> Result<Counts, Fail>
-    requires cfg { IsValidConfig cfg.now }
-    requires me { IsNodeOf cfg.now me }
-    requires client { IsTrue (is_client me) }
-    requires node { IsValidNode me }
-{
-    let mut client = ClientNode::new(alloc, cfg, me)?;
-    live(rt, alloc, &mut client, me, turns)?;
-    Ok((client.home(), client.acked(), client.known().count()))
 }

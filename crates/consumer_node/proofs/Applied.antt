@@ -1,26 +1,18 @@
 -- The records that a consumer applied beyond the confirmed ones: each is held of its position's owner, and valid; they are at most 3,840.
-use Rattle.std.proofs.Common.{◌≡◌, ℕ, zero, suc, ◌+◌, ◌-◌, ◌<◌, ◌≤◌, ◌^◌, ◌==◌, List, [], ◌∷◌, ◌++◌, length, length-append, take, Option, Some, None, refl, sym, ap, ◌∙◌, subst, inl, inr, arith}
+use Rattle.std.proofs.Common.{◌≡◌, ℕ, zero, suc, ◌+◌, ◌-◌, ◌<◌, ◌≤◌, ◌==◌, List, [], ◌∷◌, ◌++◌, length, length-append, take, Option, Some, None, refl, sym, ap, ◌∙◌, subst, inl, inr, arith}
 use Rattle.std.specs.List.{AllByRecursion, slice_get}
 use Rattle.std.specs.Option.{option_and_then}
 use Rattle.std.proofs.lemmas.Bool.{cases_Bool, cases_lt, eqb-true}
 use Rattle.std.proofs.lemmas.List.{take-append-le, length-take-le}
-use Rattle.std.proofs.lemmas.Option.{slice_get_within}
-use Rattle.fix_ante.specs.declared.spots.Owner.{Owner}
+use Rattle.std.proofs.lemmas.Option.{slice_get_within, same_Some}
+use Rattle.consumer_node.specs.Names.{Owner, IsValidRecord, Agreement, count_of, lane_of, Node, agreed_by, ConsumerState, held_of, held_for, IsOwn, IsConsumer}
 use Rattle.record_codec.specs.declared.record.Record.{Record}
-use Rattle.record_codec.specs.Records.{IsValidRecord}
-use Rattle.cut_core.specs.Agreements.{Agreement, count_of}
 use Rattle.cut_core.specs.Map.{rest_of, granted_layout, map_of, mapped}
 use Rattle.cut_core.proofs.Dense.{map-dense}
-use Rattle.cut_core.proofs.Finding.{count_of-le}
-use Rattle.spec_delivery.specs.Buffers.{lane_of}
-use Rattle.node_rules.specs.Nodes.{Node, agreed_by}
-use Rattle.consumer_node.specs.States.{ConsumerState}
-use Rattle.consumer_node.specs.Speculation.{held_of}
-use Rattle.consumer_node.specs.Sound.{held_for, IsOwn, IsConsumer}
 use Rattle.consumer_node.proofs.Lanes.{held_valid, held_reach}
-use Rattle.consumer_node.proofs.Buffers.{all_lane}
-use Rattle.consumer_node.proofs.Owners.{IsSmall, IsAgreement, agreement_by, owner_small, map_reach}
-use Rattle.consumer_node.proofs.Positions.{of_six, local_at, count_own, count_other, total, six_le, all_small, small_take}
+use Rattle.consumer_node.proofs.Closings.{all_lane}
+use Rattle.consumer_node.proofs.Owners.{IsAgreement, agreement_by}
+use Rattle.consumer_node.proofs.Positions.{of_six, local_at, count_own, count_other, total, six_le, small_take}
 
 -- ---- one of them
 
@@ -30,7 +22,8 @@ some_at (x ∷ xs) zero below = (x, refl)
 some_at (x ∷ xs) (suc i) below = some_at xs i (omega arith)
 
 -- a record that is held for a position has an owner
-pub owner_of_held : {A : Type 0} (a : Agreement) (s : ConsumerState A) (found : Option Owner) (rec : Record) → option_and_then (held_of s.lanes) found ≡ Some rec
+pub owner_of_held : {A : Type 0} (a : Agreement) (s : ConsumerState A) (found : Option Owner) (rec : Record)
+    → option_and_then (held_of s.lanes) found ≡ Some rec
     → (o : Owner) × (found ≡ Some o) × (held_of s.lanes o ≡ Some rec)
 owner_of_held a s None rec e = absurd (cc)
 owner_of_held a s (Some o) rec e = (o, refl, e)
@@ -43,7 +36,8 @@ pub record IsAppliedAt {A : Type 0} (a : Agreement) (s : ConsumerState A) (i : �
   pub position : mapped a (s.confirmed + i) ≡ Some owner
   pub held : held_of s.lanes owner ≡ Some rec
 
-pub applied_at : {A : Type 0} (a : Agreement) (s : ConsumerState A) (i : ℕ) → i < length s.pending → held_for a s (s.confirmed + i) ≡ slice_get s.pending i → IsAppliedAt a s i
+pub applied_at : {A : Type 0} (a : Agreement) (s : ConsumerState A) (i : ℕ) → i < length s.pending → held_for a s (s.confirmed + i) ≡ slice_get s.pending i
+    → IsAppliedAt a s i
 applied_at a s i below held =
     let there = some_at s.pending i below in
     let found = owner_of_held a s (mapped a (s.confirmed + i)) there.0 (held ∙ there.1) in
@@ -55,13 +49,11 @@ all_at : {X : Type 0} (P : X → Type 0) (xs : List X) → ((i : ℕ) (x : X) �
 all_at P [] each = tt
 all_at P (x ∷ xs) each = (each 0 x (omega arith) refl, all_at P xs (λ i y below e. each (suc i) y (omega arith) e))
 
-same_record : (x y : Record) → Some x ≡ Some y → x ≡ y
-same_record x y e = cc
-
-pub valid_at : {A : Type 0} (a : Agreement) (s : ConsumerState A) (i : ℕ) (rec : Record) → IsOwn a s → i < length s.pending → slice_get s.pending i ≡ Some rec → IsValidRecord rec
+pub valid_at : {A : Type 0} (a : Agreement) (s : ConsumerState A) (i : ℕ) (rec : Record) → IsOwn a s → i < length s.pending → slice_get s.pending i ≡ Some rec
+    → IsValidRecord rec
 valid_at a s i rec is below e =
     let at = applied_at a s i below (is.applied i below) in
-    subst IsValidRecord (same_record at.rec rec (sym at.applied ∙ e)) (held_valid (lane_of s.lanes at.owner.shard) at.owner.local at.rec (all_lane s.lanes at.owner.shard is.lanes) at.held)
+    subst IsValidRecord (same_Some at.rec rec (sym at.applied ∙ e)) (held_valid (lane_of s.lanes at.owner.shard) at.owner.local at.rec (all_lane s.lanes at.owner.shard is.lanes) at.held)
 
 pub pending_valid : {A : Type 0} (a : Agreement) (s : ConsumerState A) → IsOwn a s → AllByRecursion IsValidRecord s.pending
 pending_valid a s is = all_at IsValidRecord s.pending (λ i rec below e. valid_at a s i rec is below e)
@@ -87,7 +79,8 @@ applied_within a s is = elim (cases_lt 0 (length s.pending)) [
 ]
 
 -- of each shard, no more than its reach past its floor
-of_shard : {A : Type 0} (a : Agreement) (s : ConsumerState A) (n shard : ℕ) → IsAgreement a → IsOwn a s → n ≤ length s.pending → shard < 6 → count_of shard (take (s.confirmed + n) (map_of a)) ≤ count_of shard (take s.confirmed a.covered) + 640
+of_shard : {A : Type 0} (a : Agreement) (s : ConsumerState A) (n shard : ℕ) → IsAgreement a → IsOwn a s → n ≤ length s.pending → shard < 6
+    → count_of shard (take (s.confirmed + n) (map_of a)) ≤ count_of shard (take s.confirmed a.covered) + 640
 of_shard a s zero shard agreed is within small =
     let none : s.confirmed + 0 ≡ s.confirmed = omega arith in
     omega (arith, ap (λ k. count_of shard (take k (map_of a))) none, ap (count_of shard) (take_covered a s.confirmed is.confirmed))
@@ -115,9 +108,6 @@ of_shard a s (suc n) shard agreed is within small =
       | inr other ↦ omega (arith, more, count_other (map_of a) (s.confirmed + n) at.owner shard at.position other, before)
     ]
 
-map_small : (a : Agreement) → IsAgreement a → AllByRecursion IsSmall (map_of a)
-map_small a agreed = all_small (map_of a) (λ p o e. owner_small a p o agreed e)
-
 -- so at most 640 of each of the six shards are applied and not yet confirmed
 pub few_pending : {A : Type 0} (a : Agreement) (s : ConsumerState A) → IsAgreement a → IsOwn a s → length s.pending ≤ 3840
 few_pending a s agreed is =
@@ -125,8 +115,8 @@ few_pending a s agreed is =
     let now = take (s.confirmed + k) (map_of a) in
     let first = take s.confirmed a.covered in
     let within = applied_within a s is in
-    let all : of_six (λ shard. count_of shard now) ≡ length now = total now (small_take (s.confirmed + k) (map_of a) (map_small a agreed)) in
-    let old : of_six (λ shard. count_of shard first) ≡ length first = total first (small_take s.confirmed a.covered agreed.small) in
+    let all : of_six (λ shard. count_of shard now) ≡ length now = total now (small_take (s.confirmed + k) (map_of a) agreed.small) in
+    let old : of_six (λ shard. count_of shard first) ≡ length first = total first (small_take s.confirmed a.covered agreed.covered) in
     let each = six_le (λ shard. count_of shard now) (λ shard. count_of shard first) 640 (λ shard small. of_shard a s k shard agreed is (omega arith) small) in
     omega (arith, all, old, each, length-take-le (s.confirmed + k) (map_of a) within, length-take-le s.confirmed a.covered is.confirmed)
 
@@ -137,13 +127,3 @@ IsConsumer-few n is = few_pending (agreed_by n.base) n.own (agreement_by n.base 
 
 pub IsConsumer-valid : {A : Type 0} (n : Node (ConsumerState A)) → IsConsumer n → AllByRecursion IsValidRecord n.own.pending
 IsConsumer-valid n is = pending_valid (agreed_by n.base) n.own is.own
-
--- its positions and floors are far below their limits
-pub IsConsumer-applied : {A : Type 0} (n : Node (ConsumerState A)) → IsConsumer n → n.own.confirmed + length n.own.pending < 2 ^ 39
-IsConsumer-applied n is = omega (arith, applied_within (agreed_by n.base) n.own is.own, map_reach (agreed_by n.base) (agreement_by n.base is.base))
-
-pub IsConsumer-floor : {A : Type 0} (n : Node (ConsumerState A)) (shard : ℕ) → IsConsumer n → shard < 6 → (lane_of n.own.lanes shard).floor < 2 ^ 39
-IsConsumer-floor n shard is small =
-    let a = agreed_by n.base in
-    let floor = is.own.floors shard small in
-    omega (arith, floor, count_of-le shard (take n.own.confirmed a.covered), length-take-le n.own.confirmed a.covered is.own.confirmed, IsConsumer-applied n is)

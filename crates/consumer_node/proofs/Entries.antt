@@ -1,17 +1,21 @@
 -- The records that are held of a shard, as entries in the order of their locals.
-use Rattle.std.proofs.Common.{◌≡◌, ℕ, ◌<◌, ◌≤◌, ◌==◌, Bool, true, false, nat_lt, cond, List, [], ◌∷◌, filter, Option, Some, None, refl, sym, ap, ◌∙◌, subst, inl, inr, arith}
+use Rattle.std.proofs.Common.{◌≡◌, ℕ, ◌<◌, ◌==◌, Bool, true, false, nat_lt, cond, List, [], ◌∷◌, filter, Option, Some, None, refl, sym, ap, ◌∙◌, subst, arith}
 use Rattle.std.specs.List.{AllByRecursion}
 use Rattle.std.specs.List.Sorted.{IsStrictlySortedBy}
+use Rattle.std.specs.Option.{IfSome}
 use Rattle.std.specs.Map.{keys_of, lookup, remove_entry}
 use Rattle.std.specs.BTreeMap.{insert_entry}
 use Rattle.std.specs.Ordering.{nat_cmp, eq_by_cmp, match_ordering}
 use Rattle.std.specs.declared.cmp.Ordering.TheVariants.{Less, Equal, Greater}
-use Rattle.std.proofs.lemmas.Bool.{cases_Bool, cond-true, cond-false, lt-ltb, ltb-true, ltb-false, eq-eqb, both_ways, false_from_ne_true}
-use Rattle.std.proofs.lemmas.Cmp.{eq_by_cmp_equiv, nat_cmp_total}
+use Rattle.std.proofs.lemmas.Bool.{cond-true, cond-false, lt-ltb, false_from_ne_true}
+use Rattle.std.proofs.lemmas.Cmp.{eq_by_cmp_equiv, nat_cmp_total, ranked}
+use Rattle.std.proofs.lemmas.List.Elements.{All-filter, All-from_recursion, recursion_from_All}
+use Rattle.std.proofs.lemmas.Map.Entries.{All-lookup, lookup-filter-keys}
 use Rattle.std.proofs.lemmas.Map.{lookup-remove_entry}
 use Rattle.std.proofs.lemmas.Map.Lookups.{exact_unsigned}
 use Rattle.std.proofs.lemmas.Map.Keys.{sorted_head, sorted_tail, IsDistinct-from_sorted}
 use Rattle.record_codec.specs.declared.record.Record.{Record}
+use Rattle.node_rules.proofs.Lists.{all_weaken}
 use Rattle.spec_delivery.proofs.LaneLemmas.{all-insert, all-remove}
 
 abbrev pub Entries : Type 0
@@ -27,31 +31,13 @@ at local es = lookup (eq_by_cmp nat_cmp local) es
 -- ---- locals by their order
 
 less_lt : (a b : ℕ) → nat_cmp a b ≡ Less → a < b
-less_lt a b h = elim (cases_Bool (nat_lt a b)) [
-  | inl below ↦ ltb-true a b below
-  | inr past ↦
-      let rest : nat_cmp a b ≡ cond (a == b) Equal Greater = cond-false (nat_lt a b) Less (cond (a == b) Equal Greater) past in
-      elim (a == b) as (λ t. nat_cmp a b ≡ cond t Equal Greater → a < b) [ true ↦ λ e. absurd (cc) | false ↦ λ e. absurd (cc) ] rest
-]
+less_lt a b h = ranked a b Less (sym h)
+
+greater_lt : (a b : ℕ) → nat_cmp a b ≡ Greater → b < a
+greater_lt a b h = ranked a b Greater (sym h)
 
 lt_less : (a b : ℕ) → a < b → nat_cmp a b ≡ Less
 lt_less a b h = cond-true (nat_lt a b) Less (cond (a == b) Equal Greater) (lt-ltb a b h)
-
-greater_lt : (a b : ℕ) → nat_cmp a b ≡ Greater → b < a
-greater_lt a b h = elim (cases_Bool (nat_lt a b)) [
-  | inl below ↦
-      let here : nat_cmp a b ≡ Less = lt_less a b (ltb-true a b below) in
-      absurd (cc)
-  | inr past ↦
-      let rest : nat_cmp a b ≡ cond (a == b) Equal Greater = cond-false (nat_lt a b) Less (cond (a == b) Equal Greater) past in
-      elim (cases_Bool (a == b)) [
-        | inl same ↦ let equal : cond (a == b) Equal Greater ≡ Equal = cond-true (a == b) Equal Greater same in absurd (cc)
-        | inr other ↦
-            let least : b ≤ a = ltb-false a b past in
-            let apart : a ≡ b → ⊥ = λ e. both_ways (a == b) other (eq-eqb a b e) in
-            omega (arith, least, apart)
-      ]
-]
 
 pub same_local : (a b : ℕ) → eq_by_cmp nat_cmp a b ≡ true → a ≡ b
 same_local a b h = elim (nat_cmp a b) as (λ o. nat_cmp a b ≡ o → eq_by_cmp nat_cmp a b ≡ true → a ≡ b) [
@@ -68,6 +54,7 @@ other_local a b apart = false_from_ne_true _ (λ e. apart (same_local a b e))
 
 -- ---- entries in order
 
+-- between the keys of entries and the entries
 all_keys : (P : ℕ → Type 0) (es : Entries) → AllByRecursion (λ e. P e.0) es → AllByRecursion P (keys_of es)
 all_keys P [] h = tt
 all_keys P (e ∷ es) h = (h.0, all_keys P es h.1)
@@ -76,21 +63,17 @@ all_entries : (P : ℕ → Type 0) (es : Entries) → AllByRecursion P (keys_of 
 all_entries P [] h = tt
 all_entries P (e ∷ es) h = (h.0, all_entries P es h.1)
 
-all_one : (P R : ℕ → Type 0) → ((n : ℕ) → P n → R n) → (es : Entries) → AllByRecursion (λ e. P e.0) es → AllByRecursion (λ e. R e.0) es
-all_one P R one [] h = tt
-all_one P R one (e ∷ es) h = (one e.0 h.0, all_one P R one es h.1)
-
 pub order_none : InOrder []
 unfolding IsStrictlySortedBy
 order_none = tt
 
 order_first : (k : ℕ) (r : Record) (es : Entries) → AllByRecursion (λ e. k < e.0) es → InOrder es → InOrder ((k, r) ∷ es)
 unfolding IsStrictlySortedBy
-order_first k r es later h = (all_keys (λ n. nat_cmp k n ≡ Less) es (all_one (λ n. k < n) (λ n. nat_cmp k n ≡ Less) (λ n. lt_less k n) es later), h)
+order_first k r es later h = (all_keys (λ n. nat_cmp k n ≡ Less) es (all_weaken (λ e. k < e.0) (λ e. nat_cmp k e.0 ≡ Less) es (λ e. lt_less k e.0) later), h)
 
 later_keys : (e : ℕ × Record) (es : Entries) → InOrder (e ∷ es) → AllByRecursion (λ x. e.0 < x.0) es
 later_keys e es h =
-    all_one (λ n. nat_cmp e.0 n ≡ Less) (λ n. e.0 < n) (λ n. less_lt e.0 n) es
+    all_weaken (λ x. nat_cmp e.0 x.0 ≡ Less) (λ x. e.0 < x.0) es (λ x. less_lt e.0 x.0)
     (all_entries (λ n. nat_cmp e.0 n ≡ Less) es (sorted_head nat_cmp e.0 (keys_of es) h))
 
 later_order : (e : ℕ × Record) (es : Entries) → InOrder (e ∷ es) → InOrder es
@@ -103,7 +86,7 @@ order_insert (e ∷ es) k r h =
     elim (nat_cmp k e.0) as (λ o. nat_cmp k e.0 ≡ o → InOrder (match_ordering o ((k, r) ∷ e ∷ es) ((e.0, r) ∷ es) (e ∷ insert_entry nat_cmp es k r))) [
       | Less ↦ λ c.
           let first : k < e.0 = less_lt k e.0 c in
-          order_first k r (e ∷ es) (first, all_one (λ n. e.0 < n) (λ n. k < n) (λ n past. omega (arith, first, past)) es later) h
+          order_first k r (e ∷ es) (first, all_weaken (λ x. e.0 < x.0) (λ x. k < x.0) es (λ x past. omega (arith, first, past)) later) h
       | Equal ↦ λ c. order_first e.0 r es later (later_order e es h)
       | Greater ↦ λ c. order_first e.0 e.1 (insert_entry nat_cmp es k r) (all-insert (λ n. e.0 < n) es k r later (greater_lt k e.0 c)) (order_insert es k r (later_order e es h))
     ] refl
@@ -117,8 +100,7 @@ order_remove test (e ∷ es) h =
     ]
 
 pub all_filter : (P : ℕ × Record → Type 0) (test : ℕ × Record → Bool) (es : Entries) → AllByRecursion P es → AllByRecursion P (filter test es)
-all_filter P test [] h = tt
-all_filter P test (e ∷ es) h = elim (test e) as (λ b. AllByRecursion P (cond b (e ∷ filter test es) (filter test es))) [ true ↦ (h.0, all_filter P test es h.1) | false ↦ all_filter P test es h.1 ]
+all_filter P test es h = recursion_from_All P (filter test es) (All-filter test P es (All-from_recursion P es h))
 
 pub order_filter : (test : ℕ × Record → Bool) (es : Entries) → InOrder es → InOrder (filter test es)
 order_filter test [] h = h
@@ -130,7 +112,8 @@ order_filter test (e ∷ es) h =
 
 -- ---- what holds of each record
 
-pub records_insert : (P : Record → Type 0) (es : Entries) (k : ℕ) (r : Record) → AllByRecursion (λ e. P e.1) es → P r → AllByRecursion (λ e. P e.1) (insert_entry nat_cmp es k r)
+pub records_insert : (P : Record → Type 0) (es : Entries) (k : ℕ) (r : Record) → AllByRecursion (λ e. P e.1) es → P r
+    → AllByRecursion (λ e. P e.1) (insert_entry nat_cmp es k r)
 records_insert P [] k r h here = (here, tt)
 records_insert P (e ∷ es) k r h here =
     elim (nat_cmp k e.0) as (λ o. AllByRecursion (λ x. P x.1) (match_ordering o ((k, r) ∷ e ∷ es) ((e.0, r) ∷ es) (e ∷ insert_entry nat_cmp es k r))) [
@@ -139,45 +122,37 @@ records_insert P (e ∷ es) k r h here =
       | Greater ↦ (h.0, records_insert P es k r h.1 here)
     ]
 
-pub records_remove : (P : Record → Type 0) (test : ℕ → Bool) (es : Entries) → AllByRecursion (λ e. P e.1) es → AllByRecursion (λ e. P e.1) (remove_entry test es)
+pub records_remove : (P : Record → Type 0) (test : ℕ → Bool) (es : Entries) → AllByRecursion (λ e. P e.1) es
+    → AllByRecursion (λ e. P e.1) (remove_entry test es)
 records_remove P test [] h = tt
 records_remove P test (e ∷ es) h =
     elim (test e.0) as (λ b. AllByRecursion (λ x. P x.1) (cond b es (e ∷ remove_entry test es))) [ true ↦ h.1 | false ↦ (h.0, records_remove P test es h.1) ]
 
 pub record_found : (P : Record → Type 0) (local : ℕ) (es : Entries) (r : Record) → AllByRecursion (λ e. P e.1) es → at local es ≡ Some r → P r
-record_found P local [] r h e = absurd (cc)
-record_found P local (x ∷ es) r h e =
-    elim (eq_by_cmp nat_cmp local x.0) as (λ b. cond b (Some x.1) (at local es) ≡ Some r → P r) [
-      | true ↦ λ is. let same : x.1 ≡ r = cc in subst P same h.0
-      | false ↦ λ rest. record_found P local es r h.1 rest
-    ] e
+record_found P local es r h e = subst (λ (found : Option Record). IfSome found P) e (All-lookup P (eq_by_cmp nat_cmp local) es (All-from_recursion (λ e. P e.1) es h))
 
 -- ---- what is found
 
--- where nothing stands at a local, one more entry there hides none of the others
-pub found_insert : (es : Entries) (k local : ℕ) (r x : Record) → at k es ≡ None → at local es ≡ Some x → at local (insert_entry nat_cmp es k r) ≡ Some x
-found_insert [] k local r x free e = absurd (cc)
-found_insert (y ∷ es) k local r x free e =
-    elim (nat_cmp k y.0) as (λ o. nat_cmp k y.0 ≡ o → at local (match_ordering o ((k, r) ∷ y ∷ es) ((y.0, r) ∷ es) (y ∷ insert_entry nat_cmp es k r)) ≡ Some x) [
-      | Less ↦ λ c.
-          let apart : local ≡ k → ⊥ = λ same. let here : at k (y ∷ es) ≡ Some x = ap (λ n. at n (y ∷ es)) (sym same) ∙ e in absurd (cc) in
-          cond-false (eq_by_cmp nat_cmp local k) (Some r) (at local (y ∷ es)) (other_local local k apart) ∙ e
+-- an entry more at a local leaves those at the others
+found_other : (es : Entries) (k local : ℕ) (r : Record) → eq_by_cmp nat_cmp local k ≡ false → at local (insert_entry nat_cmp es k r) ≡ at local es
+found_other [] k local r other = cond-false (eq_by_cmp nat_cmp local k) (Some r) None other
+found_other (y ∷ es) k local r other =
+    elim (nat_cmp k y.0) as (λ o. nat_cmp k y.0 ≡ o → at local (match_ordering o ((k, r) ∷ y ∷ es) ((y.0, r) ∷ es) (y ∷ insert_entry nat_cmp es k r)) ≡ at local (y ∷ es)) [
+      | Less ↦ λ c. cond-false (eq_by_cmp nat_cmp local k) (Some r) (at local (y ∷ es)) other
       | Equal ↦ λ c.
-          let same : k ≡ y.0 = exact_unsigned k y.0 c in
-          let here : at k (y ∷ es) ≡ Some y.1 = cond-true (eq_by_cmp nat_cmp k y.0) (Some y.1) (at k es) (ap (λ n. eq_by_cmp nat_cmp n y.0) same ∙ local_itself y.0) in
-          absurd (cc)
-      | Greater ↦ λ c.
-          let past : y.0 < k = greater_lt k y.0 c in
-          let apart : k ≡ y.0 → ⊥ = λ same. omega (arith, past, same) in
-          let free_later : at k es ≡ None = sym (cond-false (eq_by_cmp nat_cmp k y.0) (Some y.1) (at k es) (other_local k y.0 apart)) ∙ free in
-          elim (eq_by_cmp nat_cmp local y.0) as (λ b. cond b (Some y.1) (at local es) ≡ Some x → cond b (Some y.1) (at local (insert_entry nat_cmp es k r)) ≡ Some x) [
-            | true ↦ λ here. here
-            | false ↦ λ later. found_insert es k local r x free_later later
-          ] e
+          let apart : eq_by_cmp nat_cmp local y.0 ≡ false = subst (λ n. eq_by_cmp nat_cmp local n ≡ false) (exact_unsigned k y.0 c) other in
+          cond-false (eq_by_cmp nat_cmp local y.0) (Some r) (at local es) apart ∙ sym (cond-false (eq_by_cmp nat_cmp local y.0) (Some y.1) (at local es) apart)
+      | Greater ↦ λ c. ap (cond (eq_by_cmp nat_cmp local y.0) (Some y.1)) (found_other es k local r other)
     ] refl
 
+-- so where nothing stands at its local, it hides none of them
+pub found_insert : (es : Entries) (k local : ℕ) (r x : Record) → at k es ≡ None → at local es ≡ Some x → at local (insert_entry nat_cmp es k r) ≡ Some x
+found_insert es k local r x free e =
+    found_other es k local r (other_local local k (λ same. let here : at k es ≡ Some x = ap (λ n. at n es) (sym same) ∙ e in absurd (cc))) ∙ e
+
 -- an entry that goes is found no more, and all others are
-found_remove : (es : Entries) (k local : ℕ) → InOrder es → at local (remove_entry (eq_by_cmp nat_cmp k) es) ≡ cond (eq_by_cmp nat_cmp k local) None (at local es)
+found_remove : (es : Entries) (k local : ℕ) → InOrder es
+    → at local (remove_entry (eq_by_cmp nat_cmp k) es) ≡ cond (eq_by_cmp nat_cmp k local) None (at local es)
 found_remove es k local h =
     lookup-remove_entry (eq_by_cmp_equiv nat_cmp_total) (eq_by_cmp nat_cmp k)
     (λ x y is. ap (λ n. eq_by_cmp nat_cmp n y) (same_local k x is))
@@ -191,13 +166,5 @@ others_stay es k local h apart = found_remove es k local h ∙ cond-false _ None
 
 -- what is below an end is found before the end
 pub found_below : (end : ℕ) (es : Entries) (local : ℕ) → local < end → at local (filter (λ e. nat_lt e.0 end) es) ≡ at local es
-found_below end [] local below = refl
-found_below end (x ∷ es) local below =
-    let rest = found_below end es local below in
-    elim (nat_lt x.0 end) as (λ b. nat_lt x.0 end ≡ b → at local (cond b (x ∷ filter (λ e. nat_lt e.0 end) es) (filter (λ e. nat_lt e.0 end) es)) ≡ at local (x ∷ es)) [
-      | true ↦ λ _. ap (cond (eq_by_cmp nat_cmp local x.0) (Some x.1)) rest
-      | false ↦ λ past.
-          let least : end ≤ x.0 = ltb-false x.0 end past in
-          let apart : local ≡ x.0 → ⊥ = λ same. omega (arith, least, below, same) in
-          rest ∙ sym (cond-false (eq_by_cmp nat_cmp local x.0) (Some x.1) (at local es) (other_local local x.0 apart))
-    ] refl
+found_below end es local below =
+    lookup-filter-keys (eq_by_cmp nat_cmp local) (λ k. nat_lt k end) true (λ k same. lt-ltb k end (subst (λ n. n < end) (same_local local k same) below)) es

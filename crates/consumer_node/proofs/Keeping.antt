@@ -1,33 +1,28 @@
 -- What a consumer keeps, as records are applied, taken back and confirmed.
 use Rattle.std.proofs.Common.{◌≡◌, ℕ, zero, suc, ◌+◌, ◌-◌, ◌<◌, ◌≤◌, ◌^◌, min, List, [], ◌∷◌, ◌++◌, length, take, refl, sym, ap, subst, ◌∙◌, arith, length-append}
 use Rattle.std.proofs.lemmas.List.{length-take, take_min}
-use Rattle.app_law.specs.Folds.{fold_of}
+use Rattle.consumer_node.specs.Names.{fold_of, below, from_on, IsPast, LaneState, ConsumerState}
 use Rattle.app_law.proofs.Folds.{fold_of-append}
-use Rattle.app_law.specs.Positions.{below, from_on, IsPast}
 use Rattle.undo_points.specs.declared.points.UndoPoint.{UndoPoint}
 use Rattle.undo_points.specs.Points.{Points, point_position, pushed, points_below, points_from, taken_back, Gave}
 use Rattle.undo_points.proofs.PointLemmas.{Gave-push}
 use Rattle.output_gate.specs.declared.kept.KeptOut.{KeptOut}
 use Rattle.output_gate.specs.Gates.{Gate, out_position, holding, gate_below, gate_from}
 use Rattle.node_rules.specs.Names.{Record}
-use Rattle.spec_delivery.specs.Lanes.{LaneState}
-use Rattle.consumer_node.specs.States.{ConsumerState}
 use Rattle.consumer_node.specs.Kept.{StandFrom, GaveOutputs, IsKeptFrom, IsKept}
 use Rattle.consumer_node.proofs.Standing.{stand-push, stand-past, stand-take, below-take, below-next, from_on-next, stand-next}
 
-pub state-made : {A : Type 0} (lanes more : List LaneState) (confirmed counted : ℕ) (base same : A) (pending recs : List Record) → lanes ≡ more → confirmed ≡ counted → base ≡ same → pending ≡ recs
+pub state-made : {A : Type 0} (lanes more : List LaneState) (confirmed counted : ℕ) (base same : A) (pending recs : List Record) → lanes ≡ more
+    → confirmed ≡ counted → base ≡ same → pending ≡ recs
     → ◌≡◌ {A = ConsumerState A} (record { lanes = lanes; confirmed = confirmed; base = base; pending = pending }) (record { lanes = more; confirmed = counted; base = same; pending = recs })
 state-made lanes more confirmed counted base same pending recs a b c d = rw (a, b, c, d) refl
-
-empty : {X : Type 0} (xs : List X) → length xs ≡ 0 → xs ≡ []
-empty [] none = refl
-empty (x ∷ xs) none = absurd (omega arith)
 
 module _ {A U : Type 0} (next : A → Record → A) (output : A → Record → List ℕ) (restored : U → A → A) where
   -- ---- lists
 
   -- all undos take the state after the records back to the one before them
-  pub back-whole : (s : A) (log : List Record) (points : List (UndoPoint U)) → Gave next restored s log points → taken_back restored points (fold_of next s log) ≡ s
+  pub back-whole : (s : A) (log : List Record) (points : List (UndoPoint U)) → Gave next restored s log points
+      → taken_back restored points (fold_of next s log) ≡ s
   back-whole s [] [] gave = refl
   back-whole s [] (x ∷ points) gave = absurd gave
   back-whole s (r ∷ log) [] gave = absurd gave
@@ -39,7 +34,8 @@ module _ {A U : Type 0} (next : A → Record → A) (output : A → Record → L
   gave-length s (r ∷ log) [] gave = absurd gave
   gave-length s (r ∷ log) (x ∷ points) gave = ap suc (gave-length (next s r) log points gave.1)
 
-  gave-take : (n : ℕ) (s : A) (log : List Record) (points : List (UndoPoint U)) → Gave next restored s log points → Gave next restored s (take n log) (take n points)
+  gave-take : (n : ℕ) (s : A) (log : List Record) (points : List (UndoPoint U)) → Gave next restored s log points
+      → Gave next restored s (take n log) (take n points)
   gave-take zero s [] [] gave = tt
   gave-take (suc n) s [] [] gave = tt
   gave-take n s [] (x ∷ points) gave = absurd gave
@@ -53,7 +49,8 @@ module _ {A U : Type 0} (next : A → Record → A) (output : A → Record → L
   outputs-length s (r ∷ log) [] gave = absurd gave
   outputs-length s (r ∷ log) (x ∷ held) gave = ap suc (outputs-length (next s r) log held gave.1)
 
-  outputs-take : (n : ℕ) (s : A) (log : List Record) (held : List KeptOut) → GaveOutputs next output s log held → GaveOutputs next output s (take n log) (take n held)
+  outputs-take : (n : ℕ) (s : A) (log : List Record) (held : List KeptOut) → GaveOutputs next output s log held
+      → GaveOutputs next output s (take n log) (take n held)
   outputs-take zero s [] [] gave = tt
   outputs-take (suc n) s [] [] gave = tt
   outputs-take n s [] (x ∷ held) gave = absurd gave
@@ -61,7 +58,8 @@ module _ {A U : Type 0} (next : A → Record → A) (output : A → Record → L
   outputs-take zero s (r ∷ log) (x ∷ held) gave = tt
   outputs-take (suc n) s (r ∷ log) (x ∷ held) gave = (gave.0, outputs-take n (next s r) log held gave.1)
 
-  outputs-push : (s : A) (log : List Record) (held : List KeptOut) (r : Record) (x : KeptOut) → GaveOutputs next output s log held → x.out ≡ output (fold_of next s log) r → length x.out ≤ 64 → GaveOutputs next output s (log ++ r ∷ []) (held ++ x ∷ [])
+  outputs-push : (s : A) (log : List Record) (held : List KeptOut) (r : Record) (x : KeptOut) → GaveOutputs next output s log held
+      → x.out ≡ output (fold_of next s log) r → length x.out ≤ 64 → GaveOutputs next output s (log ++ r ∷ []) (held ++ x ∷ [])
   outputs-push s [] [] r x gave is short = ((is, short), tt)
   outputs-push s [] (y ∷ held) r x gave is short = absurd gave
   outputs-push s (q ∷ log) [] r x gave is short = absurd gave
@@ -69,14 +67,21 @@ module _ {A U : Type 0} (next : A → Record → A) (output : A → Record → L
 
   -- ---- what is kept
 
-  -- the state after the confirmed records is the application's, taken back
-  pub kept-base : (base : A) (undos : Points U) (gate : Gate) (app : A) (pending : List Record) (confirmed : ℕ) → IsKeptFrom next output restored base undos gate app pending confirmed → taken_back restored undos.held app ≡ base
-  kept-base base undos gate app pending confirmed k = ap (taken_back restored undos.held) k.state ∙ back-whole base pending undos.held k.gave
+  abbrev From : A → Points U → Gate → A → List Record → ℕ → Type 0
+  From base undos gate app pending confirmed = IsKeptFrom next output restored base undos gate app pending confirmed
 
-  pub kept-whole : (base : A) (undos : Points U) (gate : Gate) (app : A) (pending : List Record) (confirmed : ℕ) → IsKeptFrom next output restored base undos gate app pending confirmed → IsKept next output restored undos gate app pending confirmed
-  kept-whole base undos gate app pending confirmed k =
-      let P : A → Type 0 = λ b. IsKeptFrom next output restored b undos gate app pending confirmed in
-      subst P (sym (kept-base base undos gate app pending confirmed k)) k
+  abbrev pub Kept : Points U → Gate → A → List Record → ℕ → Type 0
+  Kept undos gate app pending confirmed = IsKept next output restored undos gate app pending confirmed
+
+  abbrev pub base_of : Points U → A → A
+  base_of undos app = taken_back restored undos.held app
+
+  -- the state after the confirmed records is the application's, taken back
+  kept : (base : A) (undos : Points U) (gate : Gate) (app : A) (pending : List Record) (confirmed : ℕ) → From base undos gate app pending confirmed
+      → Kept undos gate app pending confirmed × (base_of undos app ≡ base)
+  kept base undos gate app pending confirmed k =
+      let same : base_of undos app ≡ base = ap (taken_back restored undos.held) k.state ∙ back-whole base pending undos.held k.gave in
+      (subst (λ (b : A). From b undos gate app pending confirmed) (sym same) k, same)
 
   -- there is room for one more, past all that are held
   pub record HasRoom (undos : Points U) (gate : Gate) (position : ℕ) : Type 0 where
@@ -85,31 +90,34 @@ module _ {A U : Type 0} (next : A → Record → A) (output : A → Record → L
     pub gives : length gate.held < gate.room
     pub gives_past : IsPast out_position gate.held position
 
-  pub kept-room : (base : A) (undos : Points U) (gate : Gate) (app : A) (pending : List Record) (confirmed : ℕ) → IsKeptFrom next output restored base undos gate app pending confirmed → length pending < 3840 → HasRoom undos gate (confirmed + length pending)
+  pub kept-room : (base : A) (undos : Points U) (gate : Gate) (app : A) (pending : List Record) (confirmed : ℕ) → From base undos gate app pending confirmed
+      → length pending < 3840 → HasRoom undos gate (confirmed + length pending)
   kept-room base undos gate app pending confirmed k room =
-      let undos_same : length undos.held ≡ length pending = gave-length base pending undos.held k.gave in
-      let outs_same : length gate.held ≡ length pending = outputs-length base pending gate.held k.outputs in
-      let undo_room : undos.room ≡ 3840 = k.undo_room in
-      let out_room : gate.room ≡ 3840 = k.output_room in
+      let undos_same = gave-length base pending undos.held k.gave in
+      let outs_same = outputs-length base pending gate.held k.outputs in
       record {
-        undo = omega arith;
+        undo = omega (arith, k.undo_room);
         undo_past = stand-past point_position confirmed (confirmed + length pending) undos.held k.undos_stand (omega arith);
-        gives = omega arith;
+        gives = omega (arith, k.output_room);
         gives_past = stand-past out_position confirmed (confirmed + length pending) gate.held k.outputs_stand (omega arith);
       }
 
   -- one more record is applied
-  pub kept-apply : (base : A) (undos : Points U) (gate : Gate) (app : A) (pending : List Record) (confirmed : ℕ) (rec : Record) (undo : U) (out : List ℕ)
-      → IsKeptFrom next output restored base undos gate app pending confirmed → restored undo (next app rec) ≡ app → out ≡ output app rec → length out ≤ 64 → length pending < 3840
-      → IsKeptFrom next output restored base (pushed undos (confirmed + length pending) undo) (holding gate (confirmed + length pending) out) (next app rec) (pending ++ rec ∷ []) confirmed
-  kept-apply base undos gate app pending confirmed rec undo out k undoes is short room =
-      let x : UndoPoint U = record { position = confirmed + length pending; undo = undo } in
-      let y : KeptOut = record { position = confirmed + length pending; out = out } in
-      let undos_same : length undos.held ≡ length pending = gave-length base pending undos.held k.gave in
-      let outs_same : length gate.held ≡ length pending = outputs-length base pending gate.held k.outputs in
-      let back : restored undo (next (fold_of next base pending) rec) ≡ fold_of next base pending = rw (← k.state) undoes in
-      let gives : out ≡ output (fold_of next base pending) rec = rw (← k.state) is in
-      record {
+  pub has-applied : (undos more : Points U) (gate wider : Gate) (app after : A) (pending longer : List Record) (confirmed position : ℕ) (rec : Record) (undo : U) (out : List ℕ)
+      → Kept undos gate app pending confirmed → length pending < 3840 → position ≡ confirmed + length pending
+      → after ≡ next app rec → restored undo after ≡ app → out ≡ output app rec → length out ≤ 64
+      → more ≡ pushed undos position undo → wider ≡ holding gate position out → longer ≡ pending ++ rec ∷ []
+      → Kept more wider after longer confirmed × (base_of more after ≡ base_of undos app)
+  has-applied undos more gate wider app after pending longer confirmed position rec undo out k room at after_is undoes is short more_is wider_is longer_is =
+      let base : A = base_of undos app in
+      let x : UndoPoint U = record { position = position; undo = undo } in
+      let y : KeptOut = record { position = position; out = out } in
+      let undos_same = gave-length base pending undos.held k.gave in
+      let outs_same = outputs-length base pending gate.held k.outputs in
+      let undone : restored undo (next app rec) ≡ app = rw after_is at undoes in
+      let back : restored undo (next (fold_of next base pending) rec) ≡ fold_of next base pending = subst (λ (s : A). restored undo (next s rec) ≡ s) k.state undone in
+      let gives : out ≡ output (fold_of next base pending) rec = is ∙ ap (λ (s : A). output s rec) k.state in
+      let made : From base (pushed undos position undo) (holding gate position out) (next app rec) (pending ++ rec ∷ []) confirmed = record {
         state = ap (λ s. next s rec) k.state ∙ sym (fold_of-append next base pending (rec ∷ []));
         gave = Gave-push next restored base pending undos.held rec x k.gave back;
         outputs = outputs-push base pending gate.held rec y k.outputs gives short;
@@ -119,63 +127,67 @@ module _ {A U : Type 0} (next : A → Record → A) (output : A → Record → L
         output_room = k.output_room;
         few = omega (arith, length-append pending (rec ∷ []));
         most = k.most;
-      }
-
-  -- the records that stay below a position
-  stay-length : (first : ℕ) (base : A) (undos : Points U) (gate : Gate) (app : A) (pending : List Record) (confirmed : ℕ) → IsKeptFrom next output restored base undos gate app pending confirmed → take (length (below point_position first undos.held)) pending ≡ take (first - confirmed) pending
-  stay-length first base undos gate app pending confirmed k =
-      let undos_same : length undos.held ≡ length pending = gave-length base pending undos.held k.gave in
-      let count : length (below point_position first undos.held) ≡ min (first - confirmed) (length pending) =
-      ap length (below-take point_position confirmed first undos.held k.undos_stand) ∙ (length-take (first - confirmed) undos.held ∙ ap (min (first - confirmed)) undos_same) in
-      ap (λ (n : ℕ). take n pending) count ∙ take_min (first - confirmed) pending
+      } in
+      rw (more_is, wider_is, after_is, longer_is) (kept _ _ _ _ _ _ made)
 
   -- what is applied from a position on is taken back
-  pub kept-cut : (base : A) (undos : Points U) (gate : Gate) (app : A) (pending : List Record) (confirmed first : ℕ) (back : A)
-      → IsKeptFrom next output restored base undos gate app pending confirmed → back ≡ fold_of next base (take (length (below point_position first undos.held)) pending)
-      → IsKeptFrom next output restored base (points_below undos first) (gate_below gate first) back (take (first - confirmed) pending) confirmed
-  kept-cut base undos gate app pending confirmed first back k is =
+  pub has-cut : (undos fewer : Points U) (gate narrower : Gate) (app after : A) (pending shorter : List Record) (confirmed first stay : ℕ)
+      → Kept undos gate app pending confirmed → stay ≡ first - confirmed
+      → after ≡ fold_of next (base_of undos app) (take (length (below point_position first undos.held)) pending)
+      → fewer ≡ points_below undos first → narrower ≡ gate_below gate first → shorter ≡ take stay pending
+      → Kept fewer narrower after shorter confirmed × (base_of fewer after ≡ base_of undos app)
+  has-cut undos fewer gate narrower app after pending shorter confirmed first stay k stays after_is fewer_is narrower_is shorter_is =
+      let base : A = base_of undos app in
       let n : ℕ = first - confirmed in
       let undos_are : below point_position first undos.held ≡ take n undos.held = below-take point_position confirmed first undos.held k.undos_stand in
       let outs_are : below out_position first gate.held ≡ take n gate.held = below-take out_position confirmed first gate.held k.outputs_stand in
-      let fewer : length (take n pending) ≡ min n (length pending) = length-take n pending in
-      let few : length pending ≤ 3840 = k.few in
-      record {
-        state = is ∙ ap (fold_of next base) (stay-length first base undos gate app pending confirmed k);
+      let count : length (below point_position first undos.held) ≡ min n (length pending) =
+      ap length undos_are ∙ (length-take n undos.held ∙ ap (min n) (gave-length base pending undos.held k.gave)) in
+      let made : From base (points_below undos first) (gate_below gate first) after (take n pending) confirmed = record {
+        state = after_is ∙ ap (fold_of next base) (ap (λ (m : ℕ). take m pending) count ∙ take_min n pending);
         gave = rw undos_are (gave-take n base pending undos.held k.gave);
         outputs = rw outs_are (outputs-take n base pending gate.held k.outputs);
         undos_stand = rw undos_are (stand-take point_position confirmed n undos.held k.undos_stand);
         outputs_stand = rw outs_are (stand-take out_position confirmed n gate.held k.outputs_stand);
         undo_room = k.undo_room;
         output_room = k.output_room;
-        few = omega arith;
+        few = omega (arith, length-take n pending, k.few);
         most = k.most;
-      }
+      } in
+      rw (fewer_is, narrower_is, shorter_is, stays) (kept _ _ _ _ _ _ made)
 
   -- the oldest of the pending records is confirmed
-  gave-next : (at : ℕ) (s : A) (rec : Record) (log : List Record) (points : List (UndoPoint U)) → StandFrom point_position at points → Gave next restored s (rec ∷ log) points → Gave next restored (next s rec) log (from_on point_position (at + 1) points)
+  gave-next : (at : ℕ) (s : A) (rec : Record) (log : List Record) (points : List (UndoPoint U)) → StandFrom point_position at points
+      → Gave next restored s (rec ∷ log) points
+      → Gave next restored (next s rec) log (from_on point_position (at + 1) points)
   gave-next at s rec log [] stand gave = absurd gave
   gave-next at s rec log (x ∷ points) stand gave = rw (from_on-next point_position at x points stand) gave.1
 
-  outputs-next : (at : ℕ) (s : A) (rec : Record) (log : List Record) (held : List KeptOut) → StandFrom out_position at held → GaveOutputs next output s (rec ∷ log) held → GaveOutputs next output (next s rec) log (from_on out_position (at + 1) held)
+  outputs-next : (at : ℕ) (s : A) (rec : Record) (log : List Record) (held : List KeptOut) → StandFrom out_position at held
+      → GaveOutputs next output s (rec ∷ log) held
+      → GaveOutputs next output (next s rec) log (from_on out_position (at + 1) held)
   outputs-next at s rec log [] stand gave = absurd gave
   outputs-next at s rec log (x ∷ held) stand gave = rw (from_on-next out_position at x held stand) gave.1
 
-  pub kept-confirm : (base : A) (undos : Points U) (gate : Gate) (app : A) (rec : Record) (pending : List Record) (confirmed : ℕ)
-      → IsKeptFrom next output restored base undos gate app (rec ∷ pending) confirmed → confirmed < 2 ^ 48
-      → IsKeptFrom next output restored (next base rec) (points_from undos (confirmed + 1)) (gate_from gate (confirmed + 1)) app pending (confirmed + 1)
-  kept-confirm base undos gate app rec pending confirmed k more =
-      let few : length (rec ∷ pending) ≤ 3840 = k.few in
-      record {
+  pub has-confirmed : (undos fewer : Points U) (gate narrower : Gate) (app : A) (rec : Record) (pending rest : List Record) (confirmed more : ℕ)
+      → Kept undos gate app pending confirmed → confirmed < 2 ^ 48 → more ≡ confirmed + 1 → pending ≡ rec ∷ rest
+      → fewer ≡ points_from undos more → narrower ≡ gate_from gate more
+      → Kept fewer narrower app rest more × (base_of fewer app ≡ next (base_of undos app) rec)
+  has-confirmed undos fewer gate narrower app rec pending rest confirmed more whole room more_is pending_is fewer_is narrower_is =
+      let base : A = base_of undos app in
+      let k : From base undos gate app (rec ∷ rest) confirmed = rw pending_is at whole in
+      let made : From (next base rec) (points_from undos (confirmed + 1)) (gate_from gate (confirmed + 1)) app rest (confirmed + 1) = record {
         state = k.state;
-        gave = gave-next confirmed base rec pending undos.held k.undos_stand k.gave;
-        outputs = outputs-next confirmed base rec pending gate.held k.outputs_stand k.outputs;
+        gave = gave-next confirmed base rec rest undos.held k.undos_stand k.gave;
+        outputs = outputs-next confirmed base rec rest gate.held k.outputs_stand k.outputs;
         undos_stand = stand-next point_position confirmed undos.held k.undos_stand;
         outputs_stand = stand-next out_position confirmed gate.held k.outputs_stand;
         undo_room = k.undo_room;
         output_room = k.output_room;
-        few = omega arith;
+        few = (let few : length (rec ∷ rest) ≤ 3840 = k.few in omega arith);
         most = omega arith;
-      }
+      } in
+      rw (fewer_is, narrower_is, more_is) (kept _ _ _ _ _ _ made)
 
   -- its output is the only one below the next position
   pub record IsReleased (s : A) (rec : Record) (released : List KeptOut) : Type 0 where
@@ -184,87 +196,15 @@ module _ {A U : Type 0} (next : A → Record → A) (output : A → Record → L
     pub gives : kept.out ≡ output s rec
     pub short : length kept.out ≤ 64
 
-  pub released-next : (at : ℕ) (s : A) (rec : Record) (log : List Record) (held : List KeptOut) → StandFrom out_position at held → GaveOutputs next output s (rec ∷ log) held → IsReleased s rec (below out_position (at + 1) held)
+  released-next : (at : ℕ) (s : A) (rec : Record) (log : List Record) (held : List KeptOut) → StandFrom out_position at held
+      → GaveOutputs next output s (rec ∷ log) held
+      → IsReleased s rec (below out_position (at + 1) held)
   released-next at s rec log [] stand gave = absurd gave
   released-next at s rec log (x ∷ held) stand gave = record { kept = x; one = below-next out_position at x held stand; gives = gave.0.0; short = gave.0.1 }
 
-  -- a record that was confirmed before a restart counts, while nothing is applied beyond
-  pub kept-stored : (base : A) (undos : Points U) (gate : Gate) (app : A) (confirmed : ℕ) (rec : Record)
-      → IsKeptFrom next output restored base undos gate app [] confirmed → confirmed < 2 ^ 48
-      → IsKeptFrom next output restored (next base rec) undos gate (next app rec) [] (confirmed + 1)
-  kept-stored base undos gate app confirmed rec k more =
-      let undos_none : undos.held ≡ [] = empty undos.held (gave-length base [] undos.held k.gave) in
-      let outs_none : gate.held ≡ [] = empty gate.held (outputs-length base [] gate.held k.outputs) in
-      record {
-        state = ap (λ s. next s rec) k.state;
-        gave = rw undos_none tt;
-        outputs = rw outs_none tt;
-        undos_stand = rw undos_none tt;
-        outputs_stand = rw outs_none tt;
-        undo_room = k.undo_room;
-        output_room = k.output_room;
-        few = k.few;
-        most = omega arith;
-      }
-
-  -- nothing is confirmed or applied
-  pub kept-fresh : (base : A) (undos : Points U) (gate : Gate) → undos ≡ record { room = 3840; held = [] } → gate ≡ record { room = 3840; held = [] } → IsKeptFrom next output restored base undos gate base [] 0
-  kept-fresh base undos gate undos_are outs_are = rw (undos_are, outs_are) (record {
-    state = refl;
-    gave = tt;
-    outputs = tt;
-    undos_stand = tt;
-    outputs_stand = tt;
-    undo_room = refl;
-    output_room = refl;
-    few = omega arith;
-    most = omega arith;
-  })
-
-  -- ---- the same, of whatever the changes are called
-
-  abbrev pub Kept : Points U → Gate → A → List Record → ℕ → Type 0
-  Kept undos gate app pending confirmed = IsKept next output restored undos gate app pending confirmed
-
-  abbrev pub base_of : Points U → A → A
-  base_of undos app = taken_back restored undos.held app
-
-  pub has-applied : (undos more : Points U) (gate wider : Gate) (app after : A) (pending longer : List Record) (confirmed position : ℕ) (rec : Record) (undo : U) (out : List ℕ)
-      → Kept undos gate app pending confirmed → length pending < 3840 → position ≡ confirmed + length pending
-      → after ≡ next app rec → restored undo after ≡ app → out ≡ output app rec → length out ≤ 64
-      → more ≡ pushed undos position undo → wider ≡ holding gate position out → longer ≡ pending ++ rec ∷ []
-      → Kept more wider after longer confirmed × (base_of more after ≡ base_of undos app)
-  has-applied undos more gate wider app after pending longer confirmed position rec undo out k room at after_is undoes gives short more_is wider_is longer_is =
-      let back : restored undo (next app rec) ≡ app = rw after_is at undoes in
-      let made = kept-apply (base_of undos app) undos gate app pending confirmed rec undo out k back gives short room in
-      rw (more_is, wider_is, after_is, longer_is, at) (kept-whole _ _ _ _ _ _ made, kept-base _ _ _ _ _ _ made)
-
-  pub has-cut : (undos fewer : Points U) (gate narrower : Gate) (app after : A) (pending shorter : List Record) (confirmed first stay : ℕ)
-      → Kept undos gate app pending confirmed → stay ≡ first - confirmed
-      → after ≡ fold_of next (base_of undos app) (take (length (below point_position first undos.held)) pending)
-      → fewer ≡ points_below undos first → narrower ≡ gate_below gate first → shorter ≡ take stay pending
-      → Kept fewer narrower after shorter confirmed × (base_of fewer after ≡ base_of undos app)
-  has-cut undos fewer gate narrower app after pending shorter confirmed first stay k stays after_is fewer_is narrower_is shorter_is =
-      let made = kept-cut (base_of undos app) undos gate app pending confirmed first after k after_is in
-      rw (fewer_is, narrower_is, shorter_is, stays) (kept-whole _ _ _ _ _ _ made, kept-base _ _ _ _ _ _ made)
-
-  pub has-confirmed : (undos fewer : Points U) (gate narrower : Gate) (app : A) (rec : Record) (pending rest : List Record) (confirmed more : ℕ)
-      → Kept undos gate app pending confirmed → confirmed < 2 ^ 48 → more ≡ confirmed + 1 → pending ≡ rec ∷ rest
-      → fewer ≡ points_from undos more → narrower ≡ gate_from gate more
-      → Kept fewer narrower app rest more × (base_of fewer app ≡ next (base_of undos app) rec)
-  has-confirmed undos fewer gate narrower app rec pending rest confirmed more k few more_is pending_is fewer_is narrower_is =
-      let made = kept-confirm (base_of undos app) undos gate app rec rest confirmed (rw pending_is at k) few in
-      rw (fewer_is, narrower_is, more_is) (kept-whole _ _ _ _ _ _ made, kept-base _ _ _ _ _ _ made)
-
   pub has-released : (undos : Points U) (gate : Gate) (app : A) (rec : Record) (pending rest : List Record) (confirmed more : ℕ)
-      → Kept undos gate app pending confirmed → more ≡ confirmed + 1 → pending ≡ rec ∷ rest → IsReleased (base_of undos app) rec (below out_position more gate.held)
-  has-released undos gate app rec pending rest confirmed more k more_is pending_is =
-      let kept : Kept undos gate app (rec ∷ rest) confirmed = rw pending_is at k in
-      rw more_is (released-next confirmed (base_of undos app) rec rest gate.held kept.outputs_stand kept.outputs)
-
-  pub has-stored : (undos : Points U) (gate : Gate) (app after : A) (pending : List Record) (confirmed more : ℕ) (rec : Record)
-      → Kept undos gate app pending confirmed → confirmed < 2 ^ 48 → more ≡ confirmed + 1 → pending ≡ [] → after ≡ next app rec
-      → Kept undos gate after pending more × (base_of undos after ≡ next (base_of undos app) rec)
-  has-stored undos gate app after pending confirmed more rec k few more_is none after_is =
-      let made = kept-stored (base_of undos app) undos gate app confirmed rec (rw none at k) few in
-      rw (none, more_is, after_is) (kept-whole _ _ _ _ _ _ made, kept-base _ _ _ _ _ _ made)
+      → Kept undos gate app pending confirmed → more ≡ confirmed + 1 → pending ≡ rec ∷ rest
+      → IsReleased (base_of undos app) rec (below out_position more gate.held)
+  has-released undos gate app rec pending rest confirmed more whole more_is pending_is =
+      let k : Kept undos gate app (rec ∷ rest) confirmed = rw pending_is at whole in
+      rw more_is (released-next confirmed (base_of undos app) rec rest gate.held k.outputs_stand k.outputs)

@@ -6,12 +6,11 @@ use Rattle.std.specs.Option.{IsSome}
 use Rattle.std.specs.Ordering.{nat_cmp, eq_by_cmp}
 use Rattle.std.proofs.lemmas.Bool.{cond_both, ltb-false, leb-false, or_parts}
 use Rattle.record_codec.specs.declared.record.Record.{Record}
-use Rattle.record_codec.specs.Records.{IsValidRecord}
+use Rattle.consumer_node.specs.Names.{IsValidRecord, IsLane}
 use Rattle.spec_delivery.specs.declared.put.Put.{Put}
 use Rattle.spec_delivery.specs.declared.put.Put.TheVariants.{Old, Far, Again, Kept}
 use Rattle.spec_delivery.specs.Lanes.{LaneState, IsBeforeEnd, IsInReach, fresh_lane, held_at, is_past_end, put_answer, after_put, raised, closed, emptied}
 use Rattle.spec_delivery.proofs.LaneLemmas.{all-insert, all-lookup, reach_raised, reach_closed}
-use Rattle.consumer_node.specs.Sound.{IsLane}
 use Rattle.consumer_node.proofs.Entries.{order_none, order_insert, order_remove, order_filter, all_filter, records_insert, records_remove, record_found, found_insert, found_below, removed, others_stay}
 
 -- ---- none, and all dropped
@@ -43,7 +42,8 @@ none_held None h = refl
 none_held (Some rec) h = absurd (cc)
 
 -- what each answer says
-on_answer : (P : Put → Type 0) (lane : LaneState) (local : ℕ) → P Old → P Far → P Again → (IsInReach lane local → held_at lane local ≡ None → P Kept) → P (put_answer lane local)
+on_answer : (P : Put → Type 0) (lane : LaneState) (local : ℕ) → P Old → P Far → P Again → (IsInReach lane local → held_at lane local ≡ None → P Kept)
+    → P (put_answer lane local)
 on_answer P lane local old far again kept =
     cond_both (nat_lt local lane.floor) _ _ P (λ _. old)
     (λ low. cond_both (nat_le (lane.floor + 640) local || is_past_end lane.end local) _ _ P (λ _. far)

@@ -1,30 +1,22 @@
 -- What holds of a consumer's own part at a learned entry: what a removal moves is undone, and the shards that are gone are closed.
-use Rattle.std.proofs.Common.{◌≡◌, ℕ, zero, suc, ◌+◌, ◌<◌, ◌==◌, false, List, [], ◌∷◌, length, length-append, take, Option, Some, None, refl, sym, ap, subst, ◌∙◌, inl, inr, arith}
+use Rattle.std.proofs.Common.{◌≡◌, ℕ, zero, suc, ◌+◌, ◌<◌, ◌==◌, true, List, [], ◌∷◌, length, length-append, take, Option, Some, None, refl, sym, ap, subst, ◌∙◌, inl, inr, arith}
 use Rattle.std.specs.List.{slice_get, fold}
 use Rattle.std.specs.Option.{option_and_then}
-use Rattle.std.proofs.lemmas.Bool.{cases_Bool, cond-false, or_parts}
+use Rattle.std.proofs.lemmas.Bool.{cases_Bool, cond-false, or_left, or_right}
 use Rattle.std.proofs.lemmas.List.{take-append-le, length-take}
 use Rattle.std.proofs.lemmas.Option.{slice_get_within}
 use Rattle.quota_table.specs.declared.entry.Entry.{Entry}
-use Rattle.cut_core.specs.declared.gone.Gone.{Gone}
-use Rattle.cut_core.specs.Agreements.{Agreement, agreement_from, count_of}
-use Rattle.cut_core.specs.Effects.{effect_of}
+use Rattle.consumer_node.specs.Names.{Gone, Agreement, agreement_from, count_of, effect_of, map_of, mapped, gone_end, end_among, IsBelowFirst, LaneState}
+use Rattle.consumer_node.specs.Names.{held_at, lane_of, Base, first_window, agreed_by, knowing, IsBase, ConsumerState, with_pending, held_of, close, close_gone}
+use Rattle.consumer_node.specs.Names.{IsOwn}
 use Rattle.cut_core.specs.Fold.{applied}
-use Rattle.cut_core.specs.Map.{map_of, mapped, gone_end, end_among}
-use Rattle.cut_core.specs.Agreeing.{IsBelowFirst}
 use Rattle.cut_core.proofs.AgreeingLemmas.{covered-applied, mapped-applied, applied_all-push}
-use Rattle.cut_core.proofs.Ends.{is_among}
+use Rattle.cut_core.proofs.Ends.{is_among, end_among-counted}
 use Rattle.cut_core.proofs.Finding.{dense-below}
-use Rattle.cut_core.proofs.GoneEnds.{gone_end-ended, gone_end-applied_all}
+use Rattle.cut_core.proofs.GoneEnds.{gone_end-applied_all}
 use Rattle.cut_core.proofs.Consistent.{IsConsistent-sound}
-use Rattle.node_rules.specs.Nodes.{Base, first_window, agreed_by, knowing}
-use Rattle.node_rules.specs.Sound.{IsBase}
-use Rattle.consumer_node.specs.States.{ConsumerState, with_pending}
-use Rattle.consumer_node.specs.Speculation.{held_of}
-use Rattle.consumer_node.specs.Rules.{close, close_gone}
-use Rattle.consumer_node.specs.Sound.{IsOwn}
-use Rattle.consumer_node.proofs.Buffers.{length_closed, all_closed, floor_closed, end_other, end_closed, held_below}
-use Rattle.consumer_node.proofs.Owners.{IsAgreement, agreement_by}
+use Rattle.consumer_node.proofs.Closings.{ended, ended_floor, ended_end, ended_held, length_closed, all_closed, lane_at_end}
+use Rattle.consumer_node.proofs.Owners.{IsAgreement, agreement_by, owner_small}
 use Rattle.consumer_node.proofs.Applied.{applied_at}
 use Rattle.consumer_node.proofs.Owned.{IsLearned, Any, applied_still}
 
@@ -36,7 +28,8 @@ end_before a entry shard (Some end) e none =
     let stays : gone_end (applied a entry) shard ≡ Some end = gone_end-applied_all a (entry ∷ []) shard end e in
     absurd (cc)
 
-own_learned : {A : Type 0} (a : Agreement) (entry : Entry) (s : ConsumerState A) → IsAgreement a → IsLearned Any a s → IsLearned (IsBelowFirst (effect_of a entry)) (applied a entry) s
+own_learned : {A : Type 0} (a : Agreement) (entry : Entry) (s : ConsumerState A) → IsAgreement a → IsLearned Any a s
+    → IsLearned (IsBelowFirst (effect_of a entry)) (applied a entry) s
 own_learned a entry s agreed is =
     let more = covered-applied a entry in
     record {
@@ -56,7 +49,8 @@ own_learned a entry s agreed is =
     }
 
 -- so it is of what a node's entries agree on
-pub own_knowing : {A : Type 0} (b : Base) (entry : Entry) (s : ConsumerState A) → IsBase b → IsLearned Any (agreed_by b) s → IsLearned (IsBelowFirst (effect_of (agreed_by b) entry)) (agreed_by (knowing entry b)) s
+pub own_knowing : {A : Type 0} (b : Base) (entry : Entry) (s : ConsumerState A) → IsBase b → IsLearned Any (agreed_by b) s
+    → IsLearned (IsBelowFirst (effect_of (agreed_by b) entry)) (agreed_by (knowing entry b)) s
 own_knowing b entry s base is =
     subst (λ (a : Agreement). IsLearned (IsBelowFirst (effect_of (agreed_by b) entry)) a s) (sym (applied_all-push (agreement_from (first_window b.cfg)) b.known entry))
     (own_learned (agreed_by b) entry s (agreement_by b base) is)
@@ -70,7 +64,8 @@ take_get (suc n) (x ∷ xs) zero below = refl
 take_get (suc n) (x ∷ xs) (suc i) below = take_get n xs i (omega (arith, below))
 
 -- only applied records at positions that stay are left
-pub own_cut : {A : Type 0} (P : ℕ → Type 0) (a : Agreement) (s : ConsumerState A) (n : ℕ) → ((i : ℕ) → i < n → P (s.confirmed + i)) → IsLearned P a s → IsLearned Any a (with_pending (take n s.pending) s)
+pub own_cut : {A : Type 0} (P : ℕ → Type 0) (a : Agreement) (s : ConsumerState A) (n : ℕ) → ((i : ℕ) → i < n → P (s.confirmed + i)) → IsLearned P a s
+    → IsLearned Any a (with_pending (take n s.pending) s)
 own_cut P a s n stays is = record {
   shards = is.shards;
   lanes = is.lanes;
@@ -83,7 +78,8 @@ own_cut P a s n stays is = record {
 }
 
 -- or all are
-pub own_uncut : {A : Type 0} (P : ℕ → Type 0) (a : Agreement) (s : ConsumerState A) → ((i : ℕ) → i < length s.pending → P (s.confirmed + i)) → IsLearned P a s → IsLearned Any a s
+pub own_uncut : {A : Type 0} (P : ℕ → Type 0) (a : Agreement) (s : ConsumerState A) → ((i : ℕ) → i < length s.pending → P (s.confirmed + i)) → IsLearned P a s
+    → IsLearned Any a s
 own_uncut P a s stays is = record {
   shards = is.shards;
   lanes = is.lanes;
@@ -95,33 +91,38 @@ own_uncut P a s stays is = record {
 
 -- ---- the gone shards are closed
 
-pub no_end : (gs : List Gone) (shard : ℕ) → is_among gs shard ≡ false → end_among gs shard ≡ None
-no_end [] shard none = refl
-no_end (g ∷ gs) shard none =
-    let parts = or_parts (g.shard == shard) (is_among gs shard) none in
-    cond-false _ _ _ parts.0 ∙ no_end gs shard parts.1
+among_end : (gs : List Gone) (shard end : ℕ) → end_among gs shard ≡ Some end → is_among gs shard ≡ true
+among_end [] shard end e = absurd (cc)
+among_end (g ∷ gs) shard end e = elim (cases_Bool (g.shard == shard)) [
+  | inl same ↦ or_left _ _ same
+  | inr other ↦ or_right _ _ (among_end gs shard end (sym (cond-false _ _ _ other) ∙ e))
+]
 
 pub own_closed : {A : Type 0} (a : Agreement) (s : ConsumerState A) → IsAgreement a → IsLearned Any a s → IsOwn a (close_gone a s)
 own_closed a s agreed is =
     let lanes = fold close s.lanes a.gone in
     let whole = IsConsistent-sound a agreed.sound agreed.ended in
     let count : ℕ → ℕ = λ shard. count_of shard a.covered in
+    let at : (shard : ℕ) → shard < 6 → lane_of lanes shard ≡ ended (gone_end a shard) (lane_of s.lanes shard) =
+    λ shard small. lane_at_end count a.gone s.lanes shard agreed.ended (omega (arith, small, is.shards)) in
     record {
       shards = length_closed a.gone s.lanes ∙ is.shards;
       lanes = all_closed a.gone s.lanes is.lanes;
       confirmed = is.confirmed;
-      floors = λ shard small. floor_closed a.gone s.lanes shard ∙ is.floors shard small;
-      ends = λ shard small. elim (cases_Bool (is_among a.gone shard)) [
-        | inl gone ↦ end_closed count a.gone s.lanes shard (omega (arith, small, is.shards)) agreed.ended gone ∙ sym (gone_end-ended a shard agreed.ended gone)
-        | inr stays ↦
-            let none : gone_end a shard ≡ None = no_end a.gone shard stays in
-            end_other a.gone s.lanes shard stays ∙ (is.ends shard small none ∙ sym none)
-      ];
+      floors = λ shard small. ap (λ (l : LaneState). l.floor) (at shard small) ∙ (ended_floor (gone_end a shard) (lane_of s.lanes shard) ∙ is.floors shard small);
+      ends = λ shard small. ap (λ (l : LaneState). l.end) (at shard small) ∙ ended_end (gone_end a shard) (lane_of s.lanes shard) (is.ends shard small);
       applied = λ i below.
-          let at = applied_at a s i below (is.applied i below tt) in
-          let held : held_of lanes at.owner ≡ Some at.rec =
-          held_below count a.gone s.lanes at.owner.shard at.owner.local agreed.ended
-          (λ gone. omega (arith, whole.gone_own_covered at.owner.shard gone, dense-below (map_of a) at.owner.shard at.owner.local (s.confirmed + i) (whole.dense at.owner.shard) at.position))
-          ∙ at.held in
-          applied_still a s lanes i at held;
+          let here = applied_at a s i below (is.applied i below tt) in
+          let o = here.owner in
+          let held : held_of lanes o ≡ Some here.rec =
+          ap (λ (l : LaneState). held_at l o.local) (at o.shard (owner_small a (s.confirmed + i) o agreed here.position))
+          ∙ (ended_held (gone_end a o.shard) (lane_of s.lanes o.shard) o.local
+          (λ end gone. omega (
+            arith,
+            end_among-counted count a.gone o.shard end agreed.ended gone,
+            whole.gone_own_covered o.shard (among_end a.gone o.shard end gone),
+            dense-below (map_of a) o.shard o.local (s.confirmed + i) (whole.dense o.shard) here.position,
+          ))
+          ∙ here.held) in
+          applied_still a s lanes i here held;
     }

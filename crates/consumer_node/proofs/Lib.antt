@@ -1,6 +1,6 @@
 pub mod Entries
 pub mod Lanes
-pub mod Buffers
+pub mod Closings
 pub mod Owners
 pub mod Positions
 pub mod Applied
@@ -10,7 +10,6 @@ pub mod Bare
 pub mod Reached
 pub mod Outputs
 pub mod Places
-pub mod Stages
 pub mod Walk
 pub mod Turns
 pub mod Items
@@ -19,6 +18,5 @@ pub mod Within
 pub mod Standing
 pub mod Keeping
 pub mod Floors
-pub mod Closings
 pub mod Loops
-pub mod Reacting
+pub mod Notices

@@ -1,33 +1,24 @@
 -- Folds over one more number, and what a consumer applies and confirms one record after another.
-use Rattle.std.proofs.Common.{◌≡◌, ℕ, zero, suc, ◌+◌, ◌-◌, ◌≤◌, ◌==◌, List, [], ◌∷◌, ◌++◌, length, length-append, map, take, drop, Option, Some, None, Ok, Err, OnOk, refl, sym, ap, ◌∙◌, arith}
+use Rattle.std.proofs.Common.{◌≡◌, ℕ, zero, suc, ◌+◌, ◌-◌, ◌≤◌, ◌==◌, List, [], ◌∷◌, length, length-append, map, take, drop, Option, Some, None, Ok, Err, OnOk, refl, sym, ap, ◌∙◌, arith}
 use Rattle.std.specs.Prelude.{min, Result}
 use Rattle.std.specs.List.{slice_get, fold, range_with_len}
 use Rattle.std.specs.Option.{option_map_or, option_and_then, some_prefix}
+use Rattle.std.proofs.Math.Seq.{drop-cons}
 use Rattle.std.proofs.lemmas.Grind.{fold-append}
-use Rattle.fix_ante.specs.declared.spots.Owner.{Owner}
-use Rattle.cut_core.specs.Map.{map_of}
+use Rattle.std.proofs.lemmas.Option.{slice_get_within, get_or_from_slice_get}
+use Rattle.consumer_node.specs.Names.{Owner, map_of, Node, agreed_by, Turn, own_of, agreed, put_own, Meaning, held_for}
+use Rattle.fix_ante.proofs.LocalLemmas.{range_with_len-append}
 use Rattle.node_rules.specs.Names.{Record}
-use Rattle.node_rules.specs.Nodes.{Node, agreed_by}
-use Rattle.node_rules.specs.Turns.{Turn, own_of, agreed, put_own}
 use Rattle.node_rules.proofs.Lists.{on_test}
-use Rattle.consumer_node.specs.Apps.{Meaning}
 use Rattle.consumer_node.specs.States.{ConsumerState, applied}
 use Rattle.consumer_node.specs.Speculation.{held_of, to_apply, apply, apply_all, with_confirmed, confirm_at, confirm, confirm_some}
-use Rattle.consumer_node.specs.Sound.{held_for}
 use Rattle.consumer_node.specs.Confirming.{confirm_first, confirm_oldest, confirm_count}
 use Rattle.consumer_node.proofs.Applied.{some_at}
 
 -- ---- one number more
 
-range-more : (a n : ℕ) → range_with_len a (suc n) ≡ range_with_len a n ++ (a + n) ∷ []
-range-more a zero = ap (λ (x : ℕ). x ∷ []) (omega arith)
-range-more a (suc n) = ap (λ (xs : List ℕ). a ∷ xs) (range-more (a + 1) n ∙ ap (λ (x : ℕ). range_with_len (a + 1) n ++ x ∷ []) (omega arith))
-
 pub fold-more : {B : Type 0} (f : B → ℕ → B) (b : B) (first n : ℕ) → f (fold f b (range_with_len first n)) (first + n) ≡ fold f b (range_with_len first (n + 1))
-fold-more f b first n =
-    let next : n + 1 ≡ suc n = omega arith in
-    sym (ap (λ (m : ℕ). fold f b (range_with_len first m)) next
-    ∙ (ap (fold f b) (range-more first n) ∙ fold-append f b (range_with_len first n) ((first + n) ∷ [])))
+fold-more f b first n = sym (fold-append f b (range_with_len first n) ((first + n) ∷ [])) ∙ ap (fold f b) (range_with_len-append first n 1)
 
 pub fold-next : {B : Type 0} (f : B → ℕ → B) (b : B) (n : ℕ) → f (fold f b (range_with_len 0 n)) n ≡ fold f b (range_with_len 0 (n + 1))
 fold-next f b n =
@@ -48,12 +39,10 @@ drop-none (suc n) [] e = refl
 drop-none (suc n) (x ∷ xs) e = drop-none n xs e
 
 drop-some : {X : Type 0} (n : ℕ) (xs : List X) (x : X) → slice_get xs n ≡ Some x → drop n xs ≡ x ∷ drop (suc n) xs
-drop-some zero [] x e = absurd (cc)
-drop-some zero (y ∷ ys) x e = let same : y ≡ x = cc in ap (λ z. z ∷ ys) same
-drop-some (suc n) [] x e = absurd (cc)
-drop-some (suc n) (y ∷ ys) x e = drop-some n ys x e
+drop-some n xs x e = drop-cons xs n x (slice_get_within xs n x e) ∙ ap (λ y. y ∷ drop (suc n) xs) (get_or_from_slice_get xs n x x e)
 
-next-some : (f : Owner → Option Record) (os : List Owner) (n : ℕ) (rec : Record) → option_and_then f (slice_get os n) ≡ Some rec → some_prefix (map f (drop n os)) ≡ rec ∷ some_prefix (map f (drop (suc n) os))
+next-some : (f : Owner → Option Record) (os : List Owner) (n : ℕ) (rec : Record) → option_and_then f (slice_get os n) ≡ Some rec
+    → some_prefix (map f (drop n os)) ≡ rec ∷ some_prefix (map f (drop (suc n) os))
 next-some f os n rec e =
     elim (slice_get os n) as (λ (found : Option Owner). slice_get os n ≡ found → option_and_then f found ≡ Some rec → some_prefix (map f (drop n os)) ≡ rec ∷ some_prefix (map f (drop (suc n) os))) [
       | None ↦ λ here none. absurd (cc)
@@ -70,14 +59,16 @@ next-none f os n e =
     ] refl e
 
 -- the record of the next position is applied first
-pub to_apply-next : {A : Type 0} (t : Turn (ConsumerState A)) (rec : Record) → held_for (agreed t) (own_of t) (applied t) ≡ Some rec → to_apply t ≡ rec ∷ to_apply (apply t rec)
+pub to_apply-next : {A : Type 0} (t : Turn (ConsumerState A)) (rec : Record) → held_for (agreed t) (own_of t) (applied t) ≡ Some rec
+    → to_apply t ≡ rec ∷ to_apply (apply t rec)
 to_apply-next t rec held =
     let f : Owner → Option Record = held_of (own_of t).lanes in
     let os : List Owner = map_of (agreed t) in
     let place : applied (apply t rec) ≡ suc (applied t) = omega (arith, length-append (own_of t).pending (rec ∷ [])) in
     next-some f os (applied t) rec held ∙ ap (λ (n : ℕ). rec ∷ some_prefix (map f (drop n os))) (sym place)
 
-pub apply-next : {A : Type 0} (t : Turn (ConsumerState A)) (rec : Record) → held_for (agreed t) (own_of t) (applied t) ≡ Some rec → apply_all (apply t rec) ≡ apply_all t
+pub apply-next : {A : Type 0} (t : Turn (ConsumerState A)) (rec : Record) → held_for (agreed t) (own_of t) (applied t) ≡ Some rec
+    → apply_all (apply t rec) ≡ apply_all t
 apply-next t rec held = ap (fold apply t) (sym (to_apply-next t rec held))
 
 pub apply-none : {A : Type 0} (t : Turn (ConsumerState A)) → held_for (agreed t) (own_of t) (applied t) ≡ None → t ≡ apply_all t
@@ -104,12 +95,14 @@ module _ {A : Type 0} (app : Meaning A) where
       ap (confirm_oldest app) (count-none n t none) ∙ ap (λ (recs : List Record). confirm_first app recs t) none
 
   -- what follows of one confirmed record
-  confirmed-state : (rec : Record) (o : Owner) (t : Turn (ConsumerState A)) → (confirm_at app rec o t).state ≡ record { base = t.state.base; own = with_confirmed app rec o (own_of t) }
+  confirmed-state : (rec : Record) (o : Owner) (t : Turn (ConsumerState A))
+      → (confirm_at app rec o t).state ≡ record { base = t.state.base; own = with_confirmed app rec o (own_of t) }
   confirmed-state rec o t =
       on_test (λ (u : Turn (ConsumerState A)). (put_own (with_confirmed app rec o (own_of t)) u).state ≡ record { base = t.state.base; own = with_confirmed app rec o (own_of t) })
       (length (app.output (own_of t).base rec) == 0) _ _ (λ _. refl) (λ _. refl)
 
-  counted : (n : ℕ) (t : Turn (ConsumerState A)) (pending : List Record) → (own_of t).pending ≡ pending → n ≤ length (agreed t).covered - (own_of t).confirmed → fold (confirm app) t (take n pending) ≡ confirm_count app n t
+  counted : (n : ℕ) (t : Turn (ConsumerState A)) (pending : List Record) → (own_of t).pending ≡ pending → n ≤ length (agreed t).covered - (own_of t).confirmed
+      → fold (confirm app) t (take n pending) ≡ confirm_count app n t
   counted zero t [] is few = refl
   counted zero t (rec ∷ rest) is few = refl
   counted (suc n) t [] is few = sym (count-none (suc n) t is)

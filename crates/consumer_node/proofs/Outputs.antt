@@ -21,7 +21,7 @@ use Rattle.app_law.specs.declared.kv_order.KvOrder.{KvOrder}
 use Rattle.app_law.specs.declared.kv_order.KvOrder.TheVariants.{Set, Get, Del}
 use Rattle.app_law.specs.AnyApps.{any_fresh, any_next, any_output}
 use Rattle.app_law.specs.Banks.{bank_answer, bank_output, is_done}
-use Rattle.app_law.specs.Decimals.{is_decimal}
+use Rattle.record_codec.specs.Decimals.{is_decimal}
 use Rattle.app_law.specs.Folds.{fold_of}
 use Rattle.app_law.specs.KvOrders.{set_of, get_of, del_of, kv_order_of}
 use Rattle.app_law.specs.Kvs.{KvState, is_full_for, kv_after, kv_next, kv_answer, kv_output}
@@ -62,41 +62,28 @@ abbrev HasShortValues : KvState → Type 0
 HasShortValues kv = (key value : List ℕ) → entries.get kv key ≡ Some value → length value ≤ 32
 
 abbrev AsksShort : Option KvOrder → Type 0
-AsksShort None = Unit {0}
 AsksShort (Some (Set key value)) = length value ≤ 32
-AsksShort (Some (Get key)) = Unit {0}
-AsksShort (Some (Del key)) = Unit {0}
+AsksShort _ = Unit {0}
 
-asks_get : (key : Option (List ℕ)) → AsksShort (get_of key)
-asks_get None = tt
-asks_get (Some key) = tt
-
-asks_del : (key : Option (List ℕ)) → AsksShort (del_of key)
-asks_del None = tt
-asks_del (Some key) = tt
-
-asks_none : (key : Option (List ℕ)) → AsksShort (set_of key None)
-asks_none None = tt
-asks_none (Some key) = tt
-
-asks_some : (key : Option (List ℕ)) (value : List ℕ) → length value ≤ 32 → AsksShort (set_of key (Some value))
-asks_some None value short = tt
-asks_some (Some key) value short = short
+asks_of : (make : Option (List ℕ) → Option KvOrder) → AsksShort (make None) → ((key : List ℕ) → AsksShort (make (Some key))) → (key : Option (List ℕ))
+    → AsksShort (make key)
+asks_of make none some None = none
+asks_of make none some (Some key) = some key
 
 asks_set : (key value : List ℕ) → AsksShort (set_of (printable_in 8 key) (printable_in 32 value))
 asks_set key value =
     cond_both (is_printable 32 value) (Some value) None (λ found. AsksShort (set_of (printable_in 8 key) found))
     (λ fits.
     let most = (and_parts (nat_le (length value) 32) _ (and_parts (nat_le 1 (length value)) _ fits).1).0 in
-    asks_some (printable_in 8 key) value (leb-true (length value) 32 most))
-    (λ _. asks_none (printable_in 8 key))
+    asks_of (λ found. set_of found (Some value)) tt (λ _. leb-true (length value) 32 most) (printable_in 8 key))
+    (λ _. asks_of (λ found. set_of found None) tt (λ _. tt) (printable_in 8 key))
 
 asks_short : (text : List (List ℕ)) → AsksShort (kv_order_of text)
 asks_short [] = tt
 asks_short (verb ∷ []) = tt
 asks_short (verb ∷ key ∷ []) =
-    cond_both (bytes_eq verb (codes "get")) (get_of (printable_in 8 key)) _ AsksShort (λ _. asks_get (printable_in 8 key))
-    (λ _. cond_both (bytes_eq verb (codes "del")) (del_of (printable_in 8 key)) None AsksShort (λ _. asks_del (printable_in 8 key)) (λ _. tt))
+    cond_both (bytes_eq verb (codes "get")) (get_of (printable_in 8 key)) _ AsksShort (λ _. asks_of get_of tt (λ _. tt) (printable_in 8 key))
+    (λ _. cond_both (bytes_eq verb (codes "del")) (del_of (printable_in 8 key)) None AsksShort (λ _. asks_of del_of tt (λ _. tt) (printable_in 8 key)) (λ _. tt))
 asks_short (verb ∷ key ∷ value ∷ []) =
     cond_both (bytes_eq verb (codes "set")) (set_of (printable_in 8 key) (printable_in 32 value)) None AsksShort (λ _. asks_set key value) (λ _. tt)
 asks_short (verb ∷ key ∷ value ∷ more ∷ rest) = tt
@@ -116,10 +103,10 @@ short_removed kv key h other found e =
     (sym (entries.get-remove nat_list_cmp_total kv key other) ∙ e)
 
 short_after : (kv : KvState) (order : Option KvOrder) → AsksShort order → HasShortValues kv → HasShortValues (kv_after kv order)
-short_after kv None asks h = h
-short_after kv (Some (Set key value)) asks h = cond_both (is_full_for kv key) kv (entries.insert kv key value) HasShortValues (λ _. h) (λ _. short_inserted kv key value asks h)
-short_after kv (Some (Get key)) asks h = h
+short_after kv (Some (Set key value)) asks h =
+    cond_both (is_full_for kv key) kv (entries.insert kv key value) HasShortValues (λ _. h) (λ _. short_inserted kv key value asks h)
 short_after kv (Some (Del key)) asks h = short_removed kv key h
+short_after kv _ asks h = h
 
 short_next : (kv : KvState) (rec : Record) → HasShortValues kv → HasShortValues (kv_next kv rec)
 short_next kv (Data client number body) h = short_after kv (kv_order_of (words body)) (asks_short (words body)) h
@@ -144,9 +131,8 @@ kv_short kv Noop h = omega arith
 -- ---- each of them
 
 abbrev IsFitting : AnyApp → Type 0
-IsFitting (Tally t) = Unit {0}
-IsFitting (Bank balances) = Unit {0}
 IsFitting (Kv kv) = HasShortValues kv
+IsFitting _ = Unit {0}
 
 none_found : (value : List ℕ) → None ≡ Some value → length value ≤ 32
 none_found value e = absurd (cc)
@@ -160,9 +146,8 @@ fitting_fresh kinds.Kv = λ key value e.
     none_found value (sym none ∙ e)
 
 fitting_next : (state : AnyApp) (rec : Record) → IsFitting state → IsFitting (any_next state rec)
-fitting_next (Tally t) rec h = tt
-fitting_next (Bank balances) rec h = tt
 fitting_next (Kv kv) rec h = short_next kv rec h
+fitting_next _ rec h = tt
 
 fitting_after : (state : AnyApp) (log : List Record) → IsFitting state → IsFitting (fold_of any_next state log)
 fitting_after state [] h = h

@@ -1,29 +1,24 @@
 -- What holds of a consumer's own part stays, where a record is held, applied or confirmed, and at a restart.
-use Rattle.std.proofs.Common.{◌≡◌, ℕ, zero, suc, ◌+◌, ◌<◌, ◌≤◌, ◌==◌, List, [], ◌∷◌, ◌++◌, length, length-append, length-set, take, drop, replicate, None, Some, refl, sym, ap, ◌∙◌, inl, inr, arith, add-one}
+use Rattle.std.proofs.Common.{◌≡◌, ℕ, suc, ◌+◌, ◌<◌, ◌≤◌, ◌==◌, List, [], ◌∷◌, ◌++◌, length, length-append, length-set, take, drop, None, Some, refl, sym, ap, ◌∙◌, subst, inl, inr, arith, add-one}
 use Rattle.std.specs.List.{AllByRecursion, slice_get}
 use Rattle.std.specs.Option.{option_and_then}
-use Rattle.std.proofs.lemmas.Bool.{cases_Bool, cases_lt, eqb-true, eq-eqb, both_ways}
-use Rattle.std.proofs.lemmas.List.{length-drop}
-use Rattle.std.proofs.lemmas.Option.{slice_get_within}
-use Rattle.fix_ante.specs.declared.spots.Owner.{Owner}
+use Rattle.std.proofs.lemmas.Bool.{cases_Bool, cases_lt, eqb-true, eqb-false}
+use Rattle.std.proofs.lemmas.List.{length-drop, length-map, get_or-replicate, get_or-set_same, get_or-set_other}
+use Rattle.std.proofs.lemmas.Option.{slice_get_within, same_Some}
+use Rattle.consumer_node.specs.Names.{Owner, AppKind, IsValidRecord, Agreement, agreement_from, count_of, LaneState, fresh_lane, held_at, after_put, raised}
+use Rattle.consumer_node.specs.Names.{emptied, Meaning, held_of, with_confirmed}
 use Rattle.fix_ante.proofs.Entries.{slice_get-append_left, slice_get-append_right}
 use Rattle.record_codec.specs.declared.record.Record.{Record}
-use Rattle.record_codec.specs.declared.app_kind.AppKind.{AppKind}
-use Rattle.record_codec.specs.Records.{IsValidRecord}
 use Rattle.fix_ante.specs.Windows.{Window}
-use Rattle.cut_core.specs.Agreements.{Agreement, agreement_from, count_of}
 use Rattle.cut_core.specs.Map.{gone_end, map_of, mapped, located, leased}
 use Rattle.cut_core.proofs.Dense.{map-dense, leased-mapped}
 use Rattle.cut_core.proofs.Parts.{mapped-covered}
-use Rattle.spec_delivery.specs.Lanes.{LaneState, fresh_lane, held_at, after_put, raised}
 use Rattle.spec_delivery.specs.Buffers.{lane_of, answer_to, with_record, with_floor}
-use Rattle.consumer_node.specs.Apps.{Meaning}
 use Rattle.consumer_node.specs.States.{ConsumerState, fresh_consumer, applied_of, with_lanes, with_pending}
-use Rattle.consumer_node.specs.Speculation.{held_of, with_confirmed}
 use Rattle.consumer_node.specs.Restart.{reset_own}
 use Rattle.consumer_node.specs.Sound.{IsLane, held_for, FloorsAreConfirmed, IsOwn}
 use Rattle.consumer_node.proofs.Lanes.{IsPut, put_none, put_one, lane_fresh, lane_put, lane_raised, held_raised}
-use Rattle.consumer_node.proofs.Buffers.{set_here, set_other, set_each, all_lane, all_set, all_emptied, lane_without, length_without}
+use Rattle.consumer_node.proofs.Closings.{set_each, all_lane, all_set, all_emptied, lane_mapped}
 use Rattle.consumer_node.proofs.Owners.{IsAgreement, located_small}
 use Rattle.consumer_node.proofs.Positions.{local_at, count_own, count_other}
 use Rattle.consumer_node.proofs.Applied.{IsAppliedAt, applied_at, take_covered}
@@ -53,45 +48,42 @@ own_open a s is = record {
 
 -- ---- at its start, and after a restart
 
-lane_at_first : (n shard : ℕ) → lane_of (replicate n fresh_lane) shard ≡ fresh_lane
-lane_at_first zero shard = refl
-lane_at_first (suc n) zero = refl
-lane_at_first (suc n) (suc shard) = lane_at_first n shard
-
 pub own_fresh : {A : Type 0} (app : Meaning A) (kind : AppKind) (w : Window) → IsOwn (agreement_from w) (fresh_consumer app kind)
 own_fresh app kind w = record {
   shards = refl;
   lanes = (lane_fresh, (lane_fresh, (lane_fresh, (lane_fresh, (lane_fresh, (lane_fresh, tt))))));
   confirmed = omega arith;
-  floors = λ shard small. ap (λ (l : LaneState). l.floor) (lane_at_first 6 shard);
-  ends = λ shard small. ap (λ (l : LaneState). l.end) (lane_at_first 6 shard);
+  floors = λ shard small. ap (λ (l : LaneState). l.floor) (get_or-replicate 6 shard fresh_lane fresh_lane small);
+  ends = λ shard small. ap (λ (l : LaneState). l.end) (get_or-replicate 6 shard fresh_lane fresh_lane small);
   applied = λ i below. absurd (omega (arith, below));
 }
 
 pub own_reset : {A : Type 0} (a : Agreement) (s : ConsumerState A) → IsOwn a s → IsOwn a (reset_own s)
 own_reset a s is = record {
-  shards = length_without s.lanes ∙ is.shards;
+  shards = length-map s.lanes emptied ∙ is.shards;
   lanes = all_emptied s.lanes;
   confirmed = is.confirmed;
-  floors = λ shard small. ap (λ (l : LaneState). l.floor) (lane_without s.lanes shard) ∙ is.floors shard small;
-  ends = λ shard small. ap (λ (l : LaneState). l.end) (lane_without s.lanes shard) ∙ is.ends shard small;
+  floors = λ shard small. ap (λ (l : LaneState). l.floor) (lane_mapped emptied s.lanes shard refl) ∙ is.floors shard small;
+  ends = λ shard small. ap (λ (l : LaneState). l.end) (lane_mapped emptied s.lanes shard refl) ∙ is.ends shard small;
   applied = λ i below. absurd (omega (arith, below));
 }
 
 -- ---- a record is held
 
 -- where its owner's record is held still, so is an applied record
-pub applied_still : {A : Type 0} (a : Agreement) (s : ConsumerState A) (lanes : List LaneState) (i : ℕ) (at : IsAppliedAt a s i) → held_of lanes at.owner ≡ Some at.rec → held_for a (with_lanes lanes s) (s.confirmed + i) ≡ slice_get s.pending i
+pub applied_still : {A : Type 0} (a : Agreement) (s : ConsumerState A) (lanes : List LaneState) (i : ℕ) (at : IsAppliedAt a s i)
+    → held_of lanes at.owner ≡ Some at.rec → held_for a (with_lanes lanes s) (s.confirmed + i) ≡ slice_get s.pending i
 applied_still a s lanes i at held = ap (option_and_then (held_of lanes)) at.position ∙ (held ∙ sym at.applied)
 
-pub own_put : {A : Type 0} (a : Agreement) (s : ConsumerState A) (shard local : ℕ) (rec : Record) → IsValidRecord rec → IsOwn a s → IsOwn a (with_lanes (with_record s.lanes shard local rec) s)
+pub own_put : {A : Type 0} (a : Agreement) (s : ConsumerState A) (shard local : ℕ) (rec : Record) → IsValidRecord rec → IsOwn a s
+    → IsOwn a (with_lanes (with_record s.lanes shard local rec) s)
 own_put a s shard local rec valid is =
     let lane = after_put (answer_to s.lanes shard local) (lane_of s.lanes shard) local rec in
     let put : (other : ℕ) → IsPut (lane_of s.lanes other) (lane_of (with_record s.lanes shard local rec) other) =
     set_each IsPut s.lanes shard lane put_none (put_one (lane_of s.lanes shard) local rec) in
     record {
       shards = length-set s.lanes shard lane ∙ is.shards;
-      lanes = all_set s.lanes shard lane is.lanes (lane_put (lane_of s.lanes shard) local rec valid (all_lane s.lanes shard is.lanes));
+      lanes = all_set IsLane s.lanes shard lane is.lanes (lane_put (lane_of s.lanes shard) local rec valid (all_lane s.lanes shard is.lanes));
       confirmed = is.confirmed;
       floors = λ other small. (put other).floor ∙ is.floors other small;
       ends = λ other small. (put other).end ∙ is.ends other small;
@@ -102,7 +94,8 @@ own_put a s shard local rec valid is =
 
 -- ---- a record is applied
 
-pub own_apply : {A : Type 0} (a : Agreement) (s : ConsumerState A) (rec : Record) → held_for a s (applied_of s) ≡ Some rec → IsOwn a s → IsOwn a (with_pending (s.pending ++ rec ∷ []) s)
+pub own_apply : {A : Type 0} (a : Agreement) (s : ConsumerState A) (rec : Record) → held_for a s (applied_of s) ≡ Some rec → IsOwn a s
+    → IsOwn a (with_pending (s.pending ++ rec ∷ []) s)
 own_apply a s rec held is = record {
   shards = is.shards;
   lanes = is.lanes;
@@ -127,15 +120,14 @@ drop_one [] i = refl
 drop_one (x ∷ xs) i = refl
 
 -- two positions don't have one owner
-apart : (a : Agreement) (p q : ℕ) (o u : Owner) → IsAgreement a → mapped a p ≡ Some o → mapped a q ≡ Some u → p < q → o.shard ≡ u.shard → o.local ≡ u.local → Some p ≡ Some q
+apart : (a : Agreement) (p q : ℕ) (o u : Owner) → IsAgreement a → mapped a p ≡ Some o → mapped a q ≡ Some u → p < q → o.shard ≡ u.shard → o.local ≡ u.local
+    → Some p ≡ Some q
 apart a p q o u is first second less shard local =
     sym (leased-mapped a p o is.sound first) ∙ (ap (λ k. leased a k o.local) shard ∙ (ap (leased a u.shard) local ∙ leased-mapped a q u is.sound second))
 
-same_some : (p q : ℕ) → Some p ≡ Some q → p ≡ q
-same_some p q e = cc
-
 -- the record of a later position is held still
-later_held : {A : Type 0} (a : Agreement) (s : ConsumerState A) (o u : Owner) (q : ℕ) (rec : Record) → IsAgreement a → IsLearned Any a s → located a s.confirmed ≡ Some o → s.confirmed < q → mapped a q ≡ Some u
+later_held : {A : Type 0} (a : Agreement) (s : ConsumerState A) (o u : Owner) (q : ℕ) (rec : Record) → IsAgreement a → IsLearned Any a s
+    → located a s.confirmed ≡ Some o → s.confirmed < q → mapped a q ≡ Some u
     → held_of s.lanes u ≡ Some rec → held_of (with_floor s.lanes o.shard) u ≡ Some rec
 later_held a s o u q rec agreed is here later there held =
     let lane = raised (lane_of s.lanes o.shard) in
@@ -148,17 +140,17 @@ later_held a s o u q rec agreed is here later there held =
           let floor : (lane_of s.lanes o.shard).floor ≡ o.local =
           is.floors o.shard small ∙ (sym (ap (count_of o.shard) (take_covered a s.confirmed is.confirmed)) ∙ sym (local_at (map_of a) s.confirmed o (map-dense a o.shard agreed.sound) position)) in
           let other : (lane_of s.lanes o.shard).floor ≡ u.local → ⊥ = λ e.
-          (let one = same_some s.confirmed q (apart a s.confirmed q o u agreed position there later same (sym floor ∙ e)) in omega (arith, one, later)) in
-          let at : lane_of (with_floor s.lanes o.shard) o.shard ≡ lane = set_here s.lanes o.shard lane (omega (arith, small, is.shards)) in
-          ap (λ k. held_at (lane_of (with_floor s.lanes o.shard) k) u.local) (sym same)
-          ∙ (ap (λ (l : LaneState). held_at l u.local) at
-          ∙ (held_raised (lane_of s.lanes o.shard) u.local (all_lane s.lanes o.shard is.lanes) other
-          ∙ (ap (λ k. held_at (lane_of s.lanes k) u.local) same ∙ held)))
+          (let one = same_Some s.confirmed q (apart a s.confirmed q o u agreed position there later same (sym floor ∙ e)) in omega (arith, one, later)) in
+          let above : (lane_of s.lanes u.shard).floor ≡ u.local → ⊥ = subst (λ k. (lane_of s.lanes k).floor ≡ u.local → ⊥) same other in
+          rw same
+          (ap (λ (l : LaneState). held_at l u.local) (get_or-set_same s.lanes u.shard (raised (lane_of s.lanes u.shard)) fresh_lane (omega (arith, small, same, is.shards)))
+          ∙ (held_raised (lane_of s.lanes u.shard) u.local (all_lane s.lanes u.shard is.lanes) above ∙ held))
       | inr other ↦
-          ap (λ (l : LaneState). held_at l u.local) (set_other s.lanes o.shard lane u.shard (λ e. both_ways (o.shard == u.shard) other (eq-eqb o.shard u.shard e))) ∙ held
+          ap (λ (l : LaneState). held_at l u.local) (get_or-set_other s.lanes o.shard u.shard lane fresh_lane (λ e. eqb-false o.shard u.shard other (sym e))) ∙ held
     ]
 
-raised_floor : {A : Type 0} (a : Agreement) (s : ConsumerState A) (o : Owner) (shard : ℕ) → IsAgreement a → IsLearned Any a s → located a s.confirmed ≡ Some o → shard < 6
+raised_floor : {A : Type 0} (a : Agreement) (s : ConsumerState A) (o : Owner) (shard : ℕ) → IsAgreement a → IsLearned Any a s → located a s.confirmed ≡ Some o
+    → shard < 6
     → (lane_of (with_floor s.lanes o.shard) shard).floor ≡ count_of shard (take (suc s.confirmed) a.covered)
 raised_floor a s o shard agreed is here small =
     let lane = raised (lane_of s.lanes o.shard) in
@@ -166,25 +158,25 @@ raised_floor a s o shard agreed is here small =
     elim (cases_Bool (o.shard == shard)) [
       | inl own ↦
           let same : o.shard ≡ shard = eqb-true o.shard shard own in
-          let at : lane_of (with_floor s.lanes o.shard) o.shard ≡ lane = set_here s.lanes o.shard lane (omega (arith, owner, is.shards)) in
-          let floor : (lane_of (with_floor s.lanes o.shard) shard).floor ≡ (lane_of s.lanes shard).floor + 1 =
-          ap (λ k. (lane_of (with_floor s.lanes o.shard) k).floor) (sym same) ∙ (ap (λ (l : LaneState). l.floor) at ∙ ap (λ k. (lane_of s.lanes k).floor + 1) same) in
-          floor ∙ (ap (λ k. k + 1) (is.floors shard small) ∙ sym (count_own a.covered s.confirmed o shard here same))
+          rw same
+          (ap (λ (l : LaneState). l.floor) (get_or-set_same s.lanes shard (raised (lane_of s.lanes shard)) fresh_lane (omega (arith, small, is.shards)))
+          ∙ (ap (λ k. k + 1) (is.floors shard small) ∙ sym (count_own a.covered s.confirmed o shard here same)))
       | inr other ↦
-          ap (λ (l : LaneState). l.floor) (set_other s.lanes o.shard lane shard (λ e. both_ways (o.shard == shard) other (eq-eqb o.shard shard e)))
+          ap (λ (l : LaneState). l.floor) (get_or-set_other s.lanes o.shard shard lane fresh_lane (λ e. eqb-false o.shard shard other (sym e)))
           ∙ (is.floors shard small ∙ sym (count_other a.covered s.confirmed o shard here other))
     ]
 
 end_raised : {A : Type 0} (s : ConsumerState A) (o : Owner) (shard : ℕ) → (lane_of (with_floor s.lanes o.shard) shard).end ≡ (lane_of s.lanes shard).end
 end_raised s o shard = set_each (λ before after. after.end ≡ before.end) s.lanes o.shard (raised (lane_of s.lanes o.shard)) (λ l. refl) refl shard
 
-pub confirm_learned : {A : Type 0} (app : Meaning A) (a : Agreement) (s : ConsumerState A) (rec : Record) (o : Owner) → IsAgreement a → located a s.confirmed ≡ Some o → IsLearned Any a s → IsLearned Any a (with_confirmed app rec o s)
+pub confirm_learned : {A : Type 0} (app : Meaning A) (a : Agreement) (s : ConsumerState A) (rec : Record) (o : Owner) → IsAgreement a
+    → located a s.confirmed ≡ Some o → IsLearned Any a s → IsLearned Any a (with_confirmed app rec o s)
 confirm_learned app a s rec o agreed here is =
     let lane = raised (lane_of s.lanes o.shard) in
     let next : s.confirmed + 1 ≡ suc s.confirmed = add-one s.confirmed in
     record {
       shards = length-set s.lanes o.shard lane ∙ is.shards;
-      lanes = all_set s.lanes o.shard lane is.lanes (lane_raised (lane_of s.lanes o.shard) (all_lane s.lanes o.shard is.lanes));
+      lanes = all_set IsLane s.lanes o.shard lane is.lanes (lane_raised (lane_of s.lanes o.shard) (all_lane s.lanes o.shard is.lanes));
       confirmed = omega (arith, slice_get_within a.covered s.confirmed o here);
       floors = λ shard small. raised_floor a s o shard agreed is here small ∙ ap (λ k. count_of shard (take k a.covered)) (sym next);
       ends = λ shard small none. end_raised s o shard ∙ is.ends shard small none;
@@ -198,7 +190,8 @@ confirm_learned app a s rec o agreed here is =
           ∙ (applied_still a s (with_floor s.lanes o.shard) (suc i) at held ∙ sym (drop_one s.pending i));
     }
 
-pub own_confirm : {A : Type 0} (app : Meaning A) (a : Agreement) (s : ConsumerState A) (rec : Record) (o : Owner) → IsAgreement a → located a s.confirmed ≡ Some o → IsOwn a s → IsOwn a (with_confirmed app rec o s)
+pub own_confirm : {A : Type 0} (app : Meaning A) (a : Agreement) (s : ConsumerState A) (rec : Record) (o : Owner) → IsAgreement a
+    → located a s.confirmed ≡ Some o → IsOwn a s → IsOwn a (with_confirmed app rec o s)
 own_confirm app a s rec o agreed here is =
     let next = confirm_learned app a s rec o agreed here (own_open a s is) in
     record {

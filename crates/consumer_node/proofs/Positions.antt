@@ -1,11 +1,12 @@
 -- How many of the first positions of a map are a shard's, and which local stands at the next one.
-use Rattle.std.proofs.Common.{◌≡◌, ℕ, zero, suc, ◌+◌, ◌*◌, ◌<◌, ◌≤◌, ◌==◌, Bool, true, false, List, [], ◌∷◌, length, take, Some, refl, sym, ap, ◌∙◌, inl, inr, arith}
+use Rattle.std.proofs.Common.{◌≡◌, ℕ, zero, suc, ◌+◌, ◌*◌, ◌<◌, ◌≤◌, ◌==◌, cond, Bool, true, false, List, [], ◌∷◌, length, take, Some, refl, sym, ap, ◌∙◌, inl, inr, arith}
 use Rattle.std.specs.Prelude.{if◌then◌else◌}
 use Rattle.std.specs.List.{AllByRecursion, slice_get, range_with_len}
+use Rattle.std.proofs.lemmas.Bool.Decides.{nat_tests}
+use Rattle.std.proofs.lemmas.List.Elements.{All-take, All-from_recursion, recursion_from_All}
 use Rattle.std.proofs.lemmas.Bool.{cases_Bool, cond-true, cond-false, eq-eqb}
-use Rattle.fix_ante.specs.declared.spots.Owner.{Owner}
+use Rattle.consumer_node.specs.Names.{Owner, count_of}
 use Rattle.fix_ante.specs.Locals.{locals_of}
-use Rattle.cut_core.specs.Agreements.{count_of}
 use Rattle.cut_core.proofs.Dense.{IsDense, range_with_len-head}
 use Rattle.consumer_node.proofs.Owners.{IsSmall}
 
@@ -15,14 +16,11 @@ abbrev pub one_if : Bool → ℕ
 one_if b = if b then 1 else 0
 
 count_first : (x : Owner) (os : List Owner) (shard : ℕ) → count_of shard (x ∷ os) ≡ one_if (x.shard == shard) + count_of shard os
-count_first x os shard = elim (cases_Bool (x.shard == shard)) [
-  | inl same ↦
-      omega (arith, ap length (cond-true (x.shard == shard) (x.local ∷ locals_of shard os) (locals_of shard os) same), cond-true {A = ℕ} (x.shard == shard) 1 0 same)
-  | inr other ↦
-      omega (arith, ap length (cond-false (x.shard == shard) (x.local ∷ locals_of shard os) (locals_of shard os) other), cond-false {A = ℕ} (x.shard == shard) 1 0 other)
-]
+count_first x os shard =
+    elim (x.shard == shard) as (λ b. length (cond b (x.local ∷ locals_of shard os) (locals_of shard os)) ≡ one_if b + count_of shard os) [ true ↦ omega arith | false ↦ omega arith ]
 
-pub count_more : (os : List Owner) (p : ℕ) (o : Owner) (shard : ℕ) → slice_get os p ≡ Some o → count_of shard (take (suc p) os) ≡ count_of shard (take p os) + one_if (o.shard == shard)
+pub count_more : (os : List Owner) (p : ℕ) (o : Owner) (shard : ℕ) → slice_get os p ≡ Some o
+    → count_of shard (take (suc p) os) ≡ count_of shard (take p os) + one_if (o.shard == shard)
 count_more [] p o shard e = absurd (cc)
 count_more (x ∷ os) zero o shard e =
     let same : x ≡ o = cc in
@@ -30,15 +28,18 @@ count_more (x ∷ os) zero o shard e =
 count_more (x ∷ os) (suc p) o shard e =
     omega (arith, count_first x (take (suc p) os) shard, count_first x (take p os) shard, count_more os p o shard e)
 
-pub count_own : (os : List Owner) (p : ℕ) (o : Owner) (shard : ℕ) → slice_get os p ≡ Some o → o.shard ≡ shard → count_of shard (take (suc p) os) ≡ count_of shard (take p os) + 1
+pub count_own : (os : List Owner) (p : ℕ) (o : Owner) (shard : ℕ) → slice_get os p ≡ Some o → o.shard ≡ shard
+    → count_of shard (take (suc p) os) ≡ count_of shard (take p os) + 1
 count_own os p o shard e same = omega (arith, count_more os p o shard e, cond-true {A = ℕ} (o.shard == shard) 1 0 (eq-eqb o.shard shard same))
 
-pub count_other : (os : List Owner) (p : ℕ) (o : Owner) (shard : ℕ) → slice_get os p ≡ Some o → (o.shard == shard) ≡ false → count_of shard (take (suc p) os) ≡ count_of shard (take p os)
+pub count_other : (os : List Owner) (p : ℕ) (o : Owner) (shard : ℕ) → slice_get os p ≡ Some o → (o.shard == shard) ≡ false
+    → count_of shard (take (suc p) os) ≡ count_of shard (take p os)
 count_other os p o shard e other = omega (arith, count_more os p o shard e, cond-false {A = ℕ} (o.shard == shard) 1 0 other)
 
 -- ---- locals stand in their order
 
-local_from : (os : List Owner) (p : ℕ) (o : Owner) (shard n count : ℕ) → locals_of shard os ≡ range_with_len n count → slice_get os p ≡ Some o → o.shard ≡ shard → o.local ≡ n + count_of shard (take p os)
+local_from : (os : List Owner) (p : ℕ) (o : Owner) (shard n count : ℕ) → locals_of shard os ≡ range_with_len n count → slice_get os p ≡ Some o → o.shard ≡ shard
+    → o.local ≡ n + count_of shard (take p os)
 local_from [] p o shard n count dense e same = absurd (cc)
 local_from (x ∷ os) zero o shard n count dense e same =
     let here : x ≡ o = cc in
@@ -64,13 +65,7 @@ abbrev pub of_six : (ℕ → ℕ) → ℕ
 of_six f = f 0 + f 1 + f 2 + f 3 + f 4 + f 5
 
 one_of_six : (shard : ℕ) → shard < 6 → of_six (λ other. one_if (shard == other)) ≡ 1
-one_of_six zero below = refl
-one_of_six (suc zero) below = refl
-one_of_six (suc (suc zero)) below = refl
-one_of_six (suc (suc (suc zero))) below = refl
-one_of_six (suc (suc (suc (suc zero)))) below = refl
-one_of_six (suc (suc (suc (suc (suc zero))))) below = refl
-one_of_six (suc (suc (suc (suc (suc (suc n)))))) below = absurd (omega (arith, below))
+one_of_six shard below = grind (arith, nat_tests)
 
 -- each owner is of one of them
 pub total : (os : List Owner) → AllByRecursion IsSmall os → of_six (λ shard. count_of shard os) ≡ length os
@@ -84,11 +79,5 @@ six_le f g more each =
 
 -- ---- the first of owners
 
-pub all_small : (os : List Owner) → ((p : ℕ) (o : Owner) → slice_get os p ≡ Some o → IsSmall o) → AllByRecursion IsSmall os
-all_small [] each = tt
-all_small (x ∷ os) each = (each 0 x refl, all_small os (λ p. each (suc p)))
-
 pub small_take : (n : ℕ) (os : List Owner) → AllByRecursion IsSmall os → AllByRecursion IsSmall (take n os)
-small_take zero os small = tt
-small_take (suc n) [] small = tt
-small_take (suc n) (x ∷ os) small = (small.0, small_take n os small.1)
+small_take n os small = recursion_from_All IsSmall (take n os) (All-take IsSmall n os (All-from_recursion IsSmall os small))

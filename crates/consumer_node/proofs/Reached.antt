@@ -1,12 +1,10 @@
 -- The states that an application comes to by valid records, and what it writes in them.
 use Rattle.std.proofs.Common.{◌≡◌, ◌≤◌, List, [], ◌∷◌, ◌++◌, length, refl, sym, ap, ◌∙◌}
 use Rattle.std.specs.List.{AllByRecursion}
-use Rattle.record_codec.specs.Records.{IsValidRecord}
-use Rattle.app_law.specs.Folds.{fold_of}
+use Rattle.consumer_node.specs.Names.{IsValidRecord, fold_of, Meaning}
 use Rattle.app_law.proofs.Folds.{fold_of-append}
 use Rattle.node_rules.specs.Names.{Record}
 use Rattle.node_rules.proofs.Lists.{all_append}
-use Rattle.consumer_node.specs.Apps.{Meaning}
 
 -- a state comes after valid records from another one
 pub record IsReached {A : Type 0} (app : Meaning A) (from to : A) : Type 0 where
@@ -21,7 +19,8 @@ OutputsFitFrom {A} app from = (state : A) (rec : Record) → IsReached app from 
 pub reached_none : {A : Type 0} (app : Meaning A) (state : A) → IsReached app state state
 reached_none app state = record { log = []; valid = tt; is = refl }
 
-pub reached_next : {A : Type 0} (app : Meaning A) (from to : A) (rec : Record) → IsValidRecord rec → IsReached app from to → IsReached app from (app.next to rec)
+pub reached_next : {A : Type 0} (app : Meaning A) (from to : A) (rec : Record) → IsValidRecord rec → IsReached app from to
+    → IsReached app from (app.next to rec)
 reached_next {A} app from to rec valid reached = record {
   log = reached.log ++ rec ∷ [];
   valid = all_append IsValidRecord reached.log (rec ∷ []) reached.valid (valid, tt);

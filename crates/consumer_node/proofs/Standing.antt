@@ -1,21 +1,8 @@
 -- Items that stand at one position after another.
-use Rattle.std.proofs.Common.{◌≡◌, ◌⊎◌, inl, inr, ℕ, zero, suc, ◌+◌, ◌-◌, ◌<◌, ◌≤◌, nat_lt, nat_le, true, false, List, [], ◌∷◌, ◌++◌, length, take, refl, ap, ◌∙◌, arith}
-use Rattle.std.proofs.lemmas.Bool.Decides.{nat_tests}
-use Rattle.app_law.specs.Positions.{below, from_on, IsPast}
+use Rattle.std.proofs.Common.{◌≡◌, inl, inr, ℕ, zero, suc, ◌+◌, ◌-◌, ◌<◌, ◌≤◌, List, [], ◌∷◌, ◌++◌, length, take, refl, ap, ◌∙◌, arith}
+use Rattle.std.proofs.lemmas.Bool.{cases_lt, le-ltb, le-leb}
+use Rattle.consumer_node.specs.Names.{below, from_on, IsPast, StandFrom}
 use Rattle.app_law.proofs.PositionLemmas.{below-first, from_on-first}
-use Rattle.consumer_node.specs.Kept.{StandFrom}
-
-not_below : (m n : ℕ) → n ≤ m → nat_lt m n ≡ false
-not_below m n h = grind (arith, nat_tests)
-
-at_or_past : (m n : ℕ) → m ≤ n → nat_le m n ≡ true
-at_or_past m n h = grind (arith, nat_tests)
-
-lower_or_not : (m n : ℕ) → (m < n) ⊎ (n ≤ m)
-lower_or_not m n = elim (nat_lt m n) as (λ b. nat_lt m n ≡ b → (m < n) ⊎ (n ≤ m)) [
-  | true ↦ λ e. inl (grind (arith, nat_tests))
-  | false ↦ λ e. inr (grind (arith, nat_tests))
-] refl
 
 module _ {T : Type 0} (position : T → ℕ) where
   -- one more, after the others
@@ -40,13 +27,13 @@ module _ {T : Type 0} (position : T → ℕ) where
   below-none at p [] h far = refl
   below-none at p (x ∷ xs) h far =
       let here : p ≤ position x = omega (arith, h.0) in
-      rw (not_below (position x) p here) (below-none (at + 1) p xs h.1 (omega arith))
+      rw (le-ltb (position x) p here) (below-none (at + 1) p xs h.1 (omega arith))
 
   pub from_on-all : (at p : ℕ) (xs : List T) → StandFrom position at xs → p ≤ at → from_on position p xs ≡ xs
   from_on-all at p [] h far = refl
   from_on-all at p (x ∷ xs) h far =
       let here : p ≤ position x = omega (arith, h.0) in
-      rw (at_or_past p (position x) here) (ap (λ rest. x ∷ rest) (from_on-all (at + 1) p xs h.1 (omega arith)))
+      rw (le-leb p (position x) here) (ap (λ rest. x ∷ rest) (from_on-all (at + 1) p xs h.1 (omega arith)))
 
   -- those below a position are the first ones
   pub below-take : (at p : ℕ) (xs : List T) → StandFrom position at xs → below position p xs ≡ take (p - at) xs
@@ -54,7 +41,7 @@ module _ {T : Type 0} (position : T → ℕ) where
     | zero ↦ refl
     | suc n ↦ refl
   ]
-  below-take at p (x ∷ xs) h = elim (lower_or_not at p) [
+  below-take at p (x ∷ xs) h = elim (cases_lt at p) [
     | inl low ↦
         let here : position x < p = omega (arith, h.0) in
         let more : p - at ≡ suc (p - (at + 1)) = omega arith in

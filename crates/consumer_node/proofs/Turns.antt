@@ -3,47 +3,27 @@ use Rattle.std.proofs.Common.{◌≡◌, ◌+◌, ◌-◌, ◌<◌, List, [], �
 use Rattle.std.specs.List.{fold}
 use Rattle.std.proofs.lemmas.List.Sums.{fold-append}
 use Rattle.std.proofs.lemmas.Option.{slice_get_within}
-use Rattle.fix_ante.specs.declared.spots.Owner.{Owner}
-use Rattle.record_codec.specs.Records.{IsValidRecord}
+use Rattle.consumer_node.specs.Names.{Owner, IsValidRecord, Agreement, IsBelowFirst, effect_of, number_of, Base, Node, agreed_by, IsBase, learned, LaneState}
+use Rattle.consumer_node.specs.Names.{with_record, Meaning, ConsumerState, with_lanes, close, fit, IsOwn, IsConsumer, handle, consumer_step}
 use Rattle.spec_base.specs.Spelling.{IsValidNode}
-use Rattle.cut_core.specs.Agreements.{Agreement}
-use Rattle.cut_core.specs.Agreeing.{IsBelowFirst}
-use Rattle.cut_core.specs.Effects.{effect_of}
-use Rattle.msg_wire.specs.Nodes.{number_of}
 use Rattle.msg_wire.specs.Valid.{IsValidEvent, IsValidItem, IsValidWhat, IsValidMessage, AreValidItems}
 use Rattle.msg_wire.specs.Steps.{AreValidMessages}
 use Rattle.node_rules.specs.Names.{NodeId, Entry, Event, Record, What, Item, Message}
 use Rattle.node_rules.specs.Names.items
 use Rattle.node_rules.specs.Names.whats
-use Rattle.node_rules.specs.Nodes.{Base, Node, reset_base, agreed_by}
-use Rattle.node_rules.specs.Sound.{IsBase}
 use Rattle.node_rules.specs.Turns.{Turn, started, own_of, agreed, count_known, message_to, put_own, send}
-use Rattle.node_rules.specs.Rules.{learned}
 use Rattle.node_rules.proofs.Kept.{comes_valid, told_valid, asks_valid}
 use Rattle.node_rules.proofs.Lists.{all_push}
 use Rattle.node_rules.proofs.Places.{IsTold}
-use Rattle.node_rules.proofs.Limits.{node_valid, base_knowing, base_seeing, base_ticking}
-use Rattle.spec_delivery.specs.Lanes.{LaneState}
-use Rattle.spec_delivery.specs.Buffers.{with_record}
-use Rattle.consumer_node.specs.Apps.{Meaning}
-use Rattle.consumer_node.specs.States.{ConsumerState, with_lanes}
-use Rattle.consumer_node.specs.Rules.{close}
-use Rattle.consumer_node.specs.Restart.{fit}
-use Rattle.consumer_node.specs.Sound.{IsOwn, IsConsumer}
-use Rattle.consumer_node.specs.Steps.{handle, consumer_step}
+use Rattle.node_rules.proofs.Limits.{node_valid, base_knowing, base_seeing, base_ticking, base_reset}
 use Rattle.consumer_node.proofs.Applied.{valid_at}
 use Rattle.consumer_node.proofs.Bare.{bare_lanes, with_bare, bare_of, bare_put, bare_closed, bare_without, fits_known, fits_confirmed}
 use Rattle.consumer_node.proofs.Learned.{own_knowing, own_cut, own_uncut, own_closed}
 use Rattle.consumer_node.proofs.Owned.{IsLearned, Any, own_open, own_put, own_apply, own_confirm, own_reset}
 use Rattle.consumer_node.proofs.Owners.{agreement_by, owner_small, owner_low}
 use Rattle.consumer_node.proofs.Reached.{IsReached, OutputsFitFrom, reached_none, reached_next}
-use Rattle.consumer_node.proofs.Places.{Confirms, Says, fetches_wanted}
-use Rattle.consumer_node.proofs.Stages.{Stage, between_rules, entry_known, removal_shown, undo_done, all_applied, output_due, StagedSites, confirmed_by}
+use Rattle.consumer_node.proofs.Places.{Confirms, Says, fetches_wanted, Stage, between_rules, entry_known, removal_shown, undo_done, all_applied, output_due, StagedSites, confirmed_by}
 use Rattle.consumer_node.proofs.Walk.{staged_handle, staged_walk}
-
--- what a restart leaves of the base
-pub base_reset : (b : Base) → IsBase b → IsBase (reset_base b)
-base_reset b is = record { cfg = is.cfg; me = is.me; entries = is.entries; few = is.few; seen = omega arith; ticks = omega arith }
 
 -- what holds of its own part at each stage
 abbrev pub Owns : {A : Type 0} → Stage → Agreement → ConsumerState A → Type 0

@@ -1,13 +1,11 @@
 -- The walk through a consumer's table: what each place keeps, a whole step keeps.
-use Rattle.std.proofs.Common.{◌≡◌, ℕ, zero, suc, ◌-◌, ◌<◌, ◌==◌, true, false, nat_lt, List, [], ◌∷◌, length, Option, Some, None, refl, ap, subst, arith}
+use Rattle.std.proofs.Common.{◌≡◌, ℕ, zero, suc, ◌-◌, ◌==◌, true, nat_lt, List, [], ◌∷◌, length, Option, Some, None, refl, ap, subst, arith}
 use Rattle.std.specs.Prelude.{min}
 use Rattle.std.specs.List.{slice_get, range_with_len}
-use Rattle.std.proofs.lemmas.Bool.{eqb-true, ltb-true, ltb-false}
-use Rattle.fix_ante.specs.declared.spots.Owner.{Owner}
-use Rattle.cut_core.specs.declared.effects.Effect.{Effect}
-use Rattle.cut_core.specs.declared.effects.Effect.TheVariants.{Still, Covered, Opened, Granted, Removed, Void}
-use Rattle.cut_core.specs.Effects.{effect_of}
-use Rattle.cut_core.specs.Map.{mapped, located}
+use Rattle.std.proofs.lemmas.Bool.{eqb-true, eqb-false, ltb-true, ltb-false}
+use Rattle.std.proofs.lemmas.List.{nil_from_length}
+use Rattle.consumer_node.specs.Names.{Owner, Effect, Removed, effect_of, mapped, located, Turn, started, own_of, agreed, count_known, put_own, show, send}
+use Rattle.consumer_node.specs.Names.{Meaning, confirm_first, confirm_count, held_for}
 use Rattle.msg_wire.specs.Heeded.{is_heeded}
 use Rattle.node_rules.specs.Names.{NodeId, Entry, Event, Record, What}
 use Rattle.node_rules.specs.Names.events
@@ -16,30 +14,16 @@ use Rattle.node_rules.specs.Names.nodes
 use Rattle.node_rules.specs.Names.sides
 use Rattle.node_rules.specs.Names.whats
 use Rattle.node_rules.specs.Nodes.{Node, has_slot, asked_by}
-use Rattle.node_rules.specs.Turns.{Turn, started, own_of, agreed, count_known, put_own, show, send}
 use Rattle.node_rules.specs.Rules.{learn, learned, learn_next, with_seen, ask, decided, tick}
 use Rattle.node_rules.proofs.Lists.{on_test, on_option, on_fold}
 use Rattle.node_rules.proofs.Places.{Comes, IsTold, Asks, asks_on, asks_at_tick, Sites}
 use Rattle.node_rules.proofs.SendLemmas.{send_all_append}
-use Rattle.consumer_node.specs.Apps.{Meaning}
 use Rattle.consumer_node.specs.States.{ConsumerState, applied}
 use Rattle.consumer_node.specs.Rules.{cut_to, undo, notice, on_learned, is_wanted, fetch, fetch_at, on_tick}
 use Rattle.consumer_node.specs.Speculation.{to_apply, apply, apply_all, with_confirmed, confirm_at, finish}
-use Rattle.consumer_node.specs.Confirming.{confirm_first, confirm_count}
-use Rattle.consumer_node.specs.Sound.{held_for}
 use Rattle.consumer_node.specs.Steps.{hear, handle, consumer_step}
 use Rattle.consumer_node.proofs.Loops.{to_apply-next, apply-next, apply-none, confirm-counted}
-use Rattle.consumer_node.proofs.Places.{Knows, Confirms, HasConfirmed, fetches_wanted, noticed, undone, applied_next, confirmed, written, confirms_oldest, holds_delivered, cuts_off, closes_gone, applies_held, consumer_places}
-use Rattle.consumer_node.proofs.Stages.{Stage, between_rules, entry_known, removal_shown, undo_done, all_applied, output_due, StagedSites, confirmed_by}
-
--- an output, or none
-none_of : (output : List ℕ) → (length output == 0) ≡ true → output ≡ []
-none_of [] none = refl
-none_of (x ∷ xs) none = absurd (omega (arith, eqb-true (length (x ∷ xs)) 0 none))
-
-some_of : (output : List ℕ) → (length output == 0) ≡ false → 0 < length output
-some_of [] some = absurd (cc)
-some_of (x ∷ xs) some = omega arith
+use Rattle.consumer_node.proofs.Places.{Knows, Confirms, HasConfirmed, fetches_wanted, noticed, undone, applied_next, confirmed, written, confirms_oldest, holds_delivered, cuts_off, closes_gone, applies_held, consumer_places, Stage, between_rules, entry_known, removal_shown, undo_done, all_applied, output_due, StagedSites, confirmed_by}
 
 module _ {A : Type 0} (app : Meaning A) (W : Stage → Turn (ConsumerState A) → Type 0) (n : Node (ConsumerState A)) (event : Event) (sites : StagedSites app W n event) where
   -- ---- a learned entry
@@ -51,11 +35,7 @@ module _ {A : Type 0} (app : Meaning A) (W : Stage → Turn (ConsumerState A) �
 
   walk_notice : (effect : Effect) (t : Turn (ConsumerState A)) → W (entry_known effect) t → W undo_done (notice effect t)
   walk_notice (Removed shard first) t w = walk_undo first (show (marks.Notice first) t) (sites.notices t shard first w)
-  walk_notice Still t w = sites.moves_none t Still (λ _. tt) w
-  walk_notice (Covered rounds) t w = sites.moves_none t (Covered rounds) (λ _. tt) w
-  walk_notice (Opened window) t w = sites.moves_none t (Opened window) (λ _. tt) w
-  walk_notice (Granted window) t w = sites.moves_none t (Granted window) (λ _. tt) w
-  walk_notice (Void reason) t w = sites.moves_none t (Void reason) (λ _. tt) w
+  walk_notice effect t w = sites.moves_none t effect (λ _. tt) w
 
   walk_learn : (entry : Entry) (t : Turn (ConsumerState A)) → IsTold n event t.state entry → W between_rules t → W between_rules (learn on_learned entry t)
   walk_learn entry t told w =
@@ -122,7 +102,7 @@ module _ {A : Type 0} (app : Meaning A) (W : Stage → Turn (ConsumerState A) �
       let output = app.output (own_of t).base rec in
       let due = sites.confirms t rec o why w in
       on_test (λ v. W all_applied (put_own (with_confirmed app rec o (own_of t)) v)) (length output == 0) _ _
-      (λ none. sites.gives_none (confirmed_by app rec o t) output (none_of output none) due) (λ some. sites.gives (confirmed_by app rec o t) output (some_of output some) due)
+      (λ none. sites.gives_none (confirmed_by app rec o t) output (nil_from_length output (eqb-true (length output) 0 none)) due) (λ some. sites.gives (confirmed_by app rec o t) output (omega (arith, eqb-false (length output) 0 some)) due)
 
   walk_confirm_first : (pending : List Record) (t : Turn (ConsumerState A)) → (own_of t).pending ≡ pending → W all_applied t
       → W all_applied (confirm_first app pending t)
@@ -149,18 +129,13 @@ staged_handle app W n (events.Deliver m) sites w =
     (λ heeded. walk_hear app W n (events.Deliver m) sites m.from m.what (started n) (record { message = m; same = refl; by = refl; says = refl; heeded = heeded }) w)
     (λ _. w)
 staged_handle app W n events.Tick sites w = walk_on_tick app W n events.Tick sites refl (started n) w
-staged_handle app W n events.Restart sites w = w
-staged_handle app W n (events.Submit by body) sites w = w
-staged_handle app W n (events.Command command) sites w = w
+staged_handle app W n _ sites w = w
 
 -- and the whole step
 pub staged_walk : {A : Type 0} (app : Meaning A) (W : Stage → Turn (ConsumerState A) → Type 0) (n : Node (ConsumerState A)) (event : Event)
     → StagedSites app W n event → W between_rules (started n) → W all_applied (consumer_step app n event)
 staged_walk app W n events.Restart sites w = sites.restarts refl w
-staged_walk app W n (events.Deliver m) sites w = walk_finish app W n (events.Deliver m) sites _ (staged_handle app W n (events.Deliver m) sites w)
-staged_walk app W n events.Tick sites w = walk_finish app W n events.Tick sites _ (staged_handle app W n events.Tick sites w)
-staged_walk app W n (events.Submit by body) sites w = walk_finish app W n (events.Submit by body) sites _ w
-staged_walk app W n (events.Command command) sites w = walk_finish app W n (events.Command command) sites _ w
+staged_walk app W n event sites w = walk_finish app W n event sites _ (staged_handle app W n event sites w)
 
 -- ---- what holds at every place of the table
 

@@ -1,16 +1,10 @@
 -- A consumer sends to nodes of the cluster alone.
 use Rattle.std.proofs.Common.{◌<◌}
-use Rattle.fix_ante.specs.declared.spots.Owner.{Owner}
-use Rattle.cut_core.specs.Map.{map_of}
-use Rattle.msg_wire.specs.Valid.{IsValidConfig, IsNodeOf}
-use Rattle.node_rules.specs.Names.{NodeId, Config, Event, What}
-use Rattle.node_rules.specs.Nodes.{Node, agreed_by}
+use Rattle.consumer_node.specs.Names.{Owner, map_of, IsValidConfig, IsNodeOf, NodeId, Config, Event, What, Node, agreed_by, Meaning, ConsumerState}
+use Rattle.consumer_node.specs.Names.{consumer_step}
 use Rattle.node_rules.proofs.Lists.{all_at}
 use Rattle.node_rules.proofs.Within.{SaysWithin, TakesWithin, IsWithin, StaysWithin, comes_within, staying}
 use Rattle.node_rules.proofs.WithinAgreed.{agreed_within, map_within}
-use Rattle.consumer_node.specs.Apps.{Meaning}
-use Rattle.consumer_node.specs.States.{ConsumerState}
-use Rattle.consumer_node.specs.Steps.{consumer_step}
 use Rattle.consumer_node.proofs.Places.{Says, fetches_wanted, consumer_places}
 use Rattle.consumer_node.proofs.Walk.{consumer_walk}
 

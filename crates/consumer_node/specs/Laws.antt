@@ -27,11 +27,13 @@ OutputsFit {A} app = (state : A) (rec : Record) → length (app.output state rec
 -- what a step stores and sends is valid
 abbrev pub StepsAreValid : {A : Type 0} → Meaning A → Type 0
 StepsAreValid app =
-    (cfg : Config) (me : NodeId) (events : List Event) (event : Event) → OutputsFit app → IsValidConfig cfg → IsNodeOf cfg me → AllByRecursion IsValidEvent events → IsValidEvent event →
-    IsValidStep (step_of (consumer_step app (consumer_life app cfg me events).node event))
+    (cfg : Config) (me : NodeId) (events : List Event) (event : Event) → OutputsFit app → IsValidConfig cfg → IsNodeOf cfg me
+    → AllByRecursion IsValidEvent events → IsValidEvent event
+    → IsValidStep (step_of (consumer_step app (consumer_life app cfg me events).node event))
 
 -- so of the application of any kind, after whatever records
 abbrev pub AnyStepsAreValid : Type 0
 AnyStepsAreValid =
-    (cfg : Config) (me : NodeId) (events : List Event) (event : Event) → IsValidConfig cfg → IsNodeOf cfg me → AllByRecursion IsValidEvent events → IsValidEvent event →
-    IsValidStep (step_of (consumer_step any_meaning (consumer_life any_meaning cfg me events).node event))
+    (cfg : Config) (me : NodeId) (events : List Event) (event : Event) → IsValidConfig cfg → IsNodeOf cfg me → AllByRecursion IsValidEvent events
+    → IsValidEvent event
+    → IsValidStep (step_of (consumer_step any_meaning (consumer_life any_meaning cfg me events).node event))

@@ -9,4 +9,5 @@ pub mod Closing
 pub mod Steps
 pub mod Restart
 pub mod Laws
-pub mod Rows
+pub mod Worked
+pub mod Names

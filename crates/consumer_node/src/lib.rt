@@ -5,16 +5,17 @@
 //! a vault's items alone give. The laws of a consumer's life stand in [`laws`].
 #![tactic(auto)]
 
-mod consumer;
 pub mod laws;
-mod own;
+mod node;
 mod restart;
-mod rows;
 mod rules;
 mod speculation;
+mod state;
 mod steps;
 #[cfg(test)]
 mod tests;
+mod worked;
 
-pub use consumer::ConsumerNode;
-pub use rows::rows_compute;
+pub use node::{ConsumerNode, ReadConsumer};
+pub use state::ConsumerOwn;
+pub use worked::worked_compute;

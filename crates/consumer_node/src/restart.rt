@@ -1,13 +1,13 @@
 //! A consumer at its start, after a restart, and as the items of its vault give it.
 
 ghost use Rattle.std.specs.Prelude.{◌≡◌, [], IfOk, OnOk};
-ghost use Rattle.msg_wire.specs.Valid.{IsValidConfig, IsNodeOf, IsValidItem, AreValidItems};
+ghost use Rattle.msg_wire.specs.Valid.{IsValidConfig, IsNodeOf, IsValidItem};
 ghost use Rattle.consumer_node.specs.Apps.{meaning};
-ghost use Rattle.consumer_node.specs.Restart.{fresh_node, fit_confirmed, fit, restart_of, reset_of};
+ghost use Rattle.consumer_node.specs.Restart.{fresh_node, fit_confirmed, fit, reset_of, closed_by};
 
-use crate::own::ConsumerOwn;
 use crate::rules::close_all;
 use crate::speculation::next_covered;
+use crate::state::{Consumer, ConsumerOwn};
 use app_law::App;
 use msg_wire::{Config, Item};
 use node_rules::{Node, NodeBase};
@@ -17,11 +17,11 @@ use spec_base::NodeId;
 use std::alloc::Global;
 
 /// A consumer that has and knows nothing.
-pub(crate) fn fresh_node<A: App>(
+pub(crate) fn fresh<A: App>(
     alloc: Global,
     cfg: &Config,
     me: NodeId,
-) -> Result<Node<ConsumerOwn<A>>, OutOfMemory>
+) -> Result<Consumer<A>, OutOfMemory>
     requires valid { IsValidConfig cfg.now }
     requires node { IsNodeOf cfg.now me }
     ensures { IfOk result (λ consumer. consumer ≡ fresh_node (meaning A.fresh_state A.next_state A.output_of) cfg.now me) }
@@ -33,35 +33,22 @@ pub(crate) fn fresh_node<A: App>(
 }
 
 /// Forgets what a restart forgets: the known entries and what is confirmed stay.
-pub(crate) fn reset<A: App>(consumer: &mut Node<ConsumerOwn<A>>)
+pub(crate) fn reset<A: App>(consumer: &mut Consumer<A>)
     ensures { consumer.new ≡ reset_of consumer.old }
 {
     consumer.base.reset();
     consumer.own.reset();
 }
 
-/// What the items alone give; one that does not fit is passed over.
-pub(crate) fn restart_of<A: App>(
-    alloc: Global,
-    cfg: &Config,
-    me: NodeId,
-    items: &[Item],
-) -> Result<Node<ConsumerOwn<A>>, OutOfMemory>
-    requires valid { IsValidConfig cfg.now }
-    requires node { IsNodeOf cfg.now me }
-    requires items { AreValidItems items.now }
-    ensures { IfOk result (λ consumer. consumer ≡ restart_of (meaning A.fresh_state A.next_state A.output_of) cfg.now me items.now) }
+/// Ends each shard that is gone, after the last item.
+pub(crate) fn close<A: App>(consumer: &mut Consumer<A>)
+    ensures { consumer.new ≡ closed_by consumer.old }
 {
-    let mut consumer = fresh_node(alloc, cfg, me)?;
-    for item in items {
-        fit(&mut consumer, item)?;
-    }
-    close_all(&mut consumer);
-    Ok(consumer)
+    close_all(consumer);
 }
 
 /// Takes one more item, where it fits.
-fn fit<A: App>(consumer: &mut Node<ConsumerOwn<A>>, item: &Item) -> Result<(), OutOfMemory>
+pub(crate) fn fit<A: App>(consumer: &mut Consumer<A>, item: &Item) -> Result<(), OutOfMemory>
     requires valid { IsValidItem item.now }
     requires none { consumer.old.own.pending ≡ [] }
     ensures fits { OnOk result (consumer.new ≡ fit (meaning A.fresh_state A.next_state A.output_of) consumer.old item.now) }
@@ -78,7 +65,7 @@ fn fit<A: App>(consumer: &mut Node<ConsumerOwn<A>>, item: &Item) -> Result<(), O
 }
 
 /// Counts a record as confirmed, where the next position is covered.
-fn fit_confirmed<A: App>(consumer: &mut Node<ConsumerOwn<A>>, rec: &Record)
+fn fit_confirmed<A: App>(consumer: &mut Consumer<A>, rec: &Record)
     requires none { consumer.old.own.pending ≡ [] }
     ensures fits { consumer.new ≡ fit_confirmed (meaning A.fresh_state A.next_state A.output_of) rec.now consumer.old }
     ensures none { consumer.new.own.pending ≡ [] }

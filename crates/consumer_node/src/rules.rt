@@ -8,12 +8,11 @@ ghost use Rattle.consumer_node.specs.States.{with_lanes};
 ghost use Rattle.consumer_node.specs.Rules.{undo, notice, close_all, fetch, fetch_at, fetch_some, on_tick};
 ghost use Rattle.consumer_node.specs.Closing.{close_shard};
 
-use crate::own::ConsumerOwn;
+use crate::state::Consumer;
 use app_law::App;
 use cut_core::Effect;
 use fix_ante::Owner;
 use msg_wire::{Mark, Step, What};
-use node_rules::Node;
 use quota_table::OutOfMemory;
 
 /// How many shards there can be.
@@ -24,7 +23,7 @@ const MOST_FETCHED: u64 = 8;
 
 /// What follows of an entry that is learned now: a removal is noticed, and shards that are gone end.
 pub(crate) fn on_learned<A: App>(
-    consumer: &mut Node<ConsumerOwn<A>>,
+    consumer: &mut Consumer<A>,
     effect: Effect,
     out: &mut Step,
 ) -> Result<(), OutOfMemory>
@@ -37,7 +36,7 @@ pub(crate) fn on_learned<A: App>(
 
 /// Notices a removal, and undoes what was applied from its first failed position on.
 fn notice<A: App>(
-    consumer: &mut Node<ConsumerOwn<A>>,
+    consumer: &mut Consumer<A>,
     effect: Effect,
     out: &mut Step,
 ) -> Result<(), OutOfMemory>
@@ -51,11 +50,7 @@ fn notice<A: App>(
 }
 
 /// Takes back what was applied from a position on, where anything was.
-fn undo<A: App>(
-    consumer: &mut Node<ConsumerOwn<A>>,
-    first: u64,
-    out: &mut Step,
-) -> Result<(), OutOfMemory>
+fn undo<A: App>(consumer: &mut Consumer<A>, first: u64, out: &mut Step) -> Result<(), OutOfMemory>
     ensures { OnOk result (turn_of consumer.new out.new ≡ undo first (turn_of consumer.old out.old)) }
 {
     if first >= consumer.own.applied() {
@@ -66,7 +61,7 @@ fn undo<A: App>(
 }
 
 /// Ends each shard that is gone.
-pub(crate) fn close_all<A: App>(consumer: &mut Node<ConsumerOwn<A>>)
+pub(crate) fn close_all<A: App>(consumer: &mut Consumer<A>)
     ensures { (out : StepOf) → turn_of consumer.new out ≡ close_all (turn_of consumer.old out) }
 {
     // That the node is sound, and that there are six shards.
@@ -77,7 +72,7 @@ pub(crate) fn close_all<A: App>(consumer: &mut Node<ConsumerOwn<A>>)
 }
 
 /// Ends a shard, where it is gone.
-fn close<A: App>(consumer: &mut Node<ConsumerOwn<A>>, shard: u8)
+fn close<A: App>(consumer: &mut Consumer<A>, shard: u8)
     requires { shard ≤ 5 }
     ensures { consumer.new ≡ with_own (with_lanes (close_shard (agreed_by consumer.old.base).gone consumer.old.own.lanes shard) consumer.old.own) consumer.old }
 {
@@ -87,10 +82,7 @@ fn close<A: App>(consumer: &mut Node<ConsumerOwn<A>>, shard: u8)
 }
 
 /// A tick: it asks for the next entry, and for the records of the next positions.
-pub(crate) fn on_tick<A: App>(
-    consumer: &mut Node<ConsumerOwn<A>>,
-    out: &mut Step,
-) -> Result<(), OutOfMemory>
+pub(crate) fn on_tick<A: App>(consumer: &mut Consumer<A>, out: &mut Step) -> Result<(), OutOfMemory>
     ensures { OnOk result (turn_of consumer.new out.new ≡ on_tick (turn_of consumer.old out.old)) }
 {
     consumer.tick(out)?;
@@ -98,7 +90,7 @@ pub(crate) fn on_tick<A: App>(
 }
 
 /// Asks for the records of the positions from the applied ones on.
-fn fetch_some<A: App>(consumer: &Node<ConsumerOwn<A>>, out: &mut Step) -> Result<(), OutOfMemory>
+fn fetch_some<A: App>(consumer: &Consumer<A>, out: &mut Step) -> Result<(), OutOfMemory>
     ensures { OnOk result (turn_of consumer.now out.new ≡ fetch_some (turn_of consumer.now out.old)) }
 {
     let applied = consumer.own.applied();
@@ -110,7 +102,7 @@ fn fetch_some<A: App>(consumer: &Node<ConsumerOwn<A>>, out: &mut Step) -> Result
 
 /// Asks for the record of a position that has an owner.
 fn fetch_at<A: App>(
-    consumer: &Node<ConsumerOwn<A>>,
+    consumer: &Consumer<A>,
     position: u64,
     out: &mut Step,
 ) -> Result<(), OutOfMemory>
@@ -123,11 +115,7 @@ fn fetch_at<A: App>(
 }
 
 /// Asks both replicas of an owner's shard for a record that is wanted.
-fn fetch<A: App>(
-    consumer: &Node<ConsumerOwn<A>>,
-    owner: Owner,
-    out: &mut Step,
-) -> Result<(), OutOfMemory>
+fn fetch<A: App>(consumer: &Consumer<A>, owner: Owner, out: &mut Step) -> Result<(), OutOfMemory>
     requires { owner.shard ≤ 5 }
     ensures { OnOk result (turn_of consumer.now out.new ≡ fetch owner (turn_of consumer.now out.old)) }
 {

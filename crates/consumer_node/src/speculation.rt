@@ -14,11 +14,10 @@ ghost use Rattle.consumer_node.specs.Sound.{IsConsumer, held_for};
 ghost use Rattle.consumer_node.specs.Confirming.{confirm_oldest};
 ghost use Rattle.consumer_node.specs.Speculation.{apply, apply_all, show_output, confirm_some, finish};
 
-use crate::own::ConsumerOwn;
+use crate::state::Consumer;
 use app_law::App;
 use fix_ante::Owner;
 use msg_wire::{Item, Mark, Step};
-use node_rules::Node;
 use output_gate::MOST_KEPT;
 use quota_table::{Bytes, OutOfMemory};
 use record_codec::{Output, Record};
@@ -26,7 +25,7 @@ use std::alloc::Global;
 
 /// Applies what is held in order, then confirms what is covered, up to three records.
 pub(crate) fn finish<A: App>(
-    consumer: &mut Node<ConsumerOwn<A>>,
+    consumer: &mut Consumer<A>,
     alloc: Global,
     out: &mut Step,
 ) -> Result<(), OutOfMemory>
@@ -40,7 +39,7 @@ pub(crate) fn finish<A: App>(
 }
 
 /// Applies the records of the next positions, up to the first that is not held.
-fn apply_all<A: App>(consumer: &mut Node<ConsumerOwn<A>>, out: &mut Step) -> Result<(), OutOfMemory>
+fn apply_all<A: App>(consumer: &mut Consumer<A>, out: &mut Step) -> Result<(), OutOfMemory>
     requires sound { IsConsumer consumer.old }
     ensures turn { OnOk result (turn_of consumer.new out.new ≡ apply_all (turn_of consumer.old out.old)) }
     ensures sound { OnOk result (IsConsumer consumer.new) }
@@ -52,7 +51,7 @@ fn apply_all<A: App>(consumer: &mut Node<ConsumerOwn<A>>, out: &mut Step) -> Res
 }
 
 /// A copy of the record that is held of the next position.
-fn next_held<A: App>(consumer: &Node<ConsumerOwn<A>>) -> Result<Option<Record>, OutOfMemory>
+fn next_held<A: App>(consumer: &Consumer<A>) -> Result<Option<Record>, OutOfMemory>
     ensures { IfOk result (λ next. next ≡ held_for (agreed_by consumer.now.base) consumer.now.own (applied_of consumer.now.own)) }
 {
     let Some(owner) = consumer.base.known().owner(consumer.own.applied()) else {
@@ -65,11 +64,7 @@ fn next_held<A: App>(consumer: &Node<ConsumerOwn<A>>) -> Result<Option<Record>, 
 }
 
 /// Applies a record.
-fn apply<A: App>(
-    consumer: &mut Node<ConsumerOwn<A>>,
-    rec: Record,
-    out: &mut Step,
-) -> Result<(), OutOfMemory>
+fn apply<A: App>(consumer: &mut Consumer<A>, rec: Record, out: &mut Step) -> Result<(), OutOfMemory>
     requires room { length consumer.old.own.pending < 3840 }
     ensures { OnOk result (turn_of consumer.new out.new ≡ apply (turn_of consumer.old out.old) rec) }
 {
@@ -87,7 +82,7 @@ fn apply<A: App>(
 
 /// Confirms up to three of the applied records that are covered and not confirmed yet.
 fn confirm_some<A: App>(
-    consumer: &mut Node<ConsumerOwn<A>>,
+    consumer: &mut Consumer<A>,
     alloc: Global,
     out: &mut Step,
 ) -> Result<(), OutOfMemory>
@@ -103,7 +98,7 @@ fn confirm_some<A: App>(
 }
 
 /// How many positions are covered and not confirmed, three at most.
-fn count_to_confirm<A: App>(consumer: &Node<ConsumerOwn<A>>) -> u64
+fn count_to_confirm<A: App>(consumer: &Consumer<A>) -> u64
     ensures { result ≡ min 3 (length (agreed_by consumer.now.base).covered - consumer.now.own.confirmed) }
 {
     let covered = consumer.base.agreed().covered();
@@ -113,7 +108,7 @@ fn count_to_confirm<A: App>(consumer: &Node<ConsumerOwn<A>>) -> u64
 }
 
 /// Who has the position that is confirmed next. None where it is not covered.
-pub(crate) fn next_covered<A: App>(consumer: &Node<ConsumerOwn<A>>) -> Option<Owner>
+pub(crate) fn next_covered<A: App>(consumer: &Consumer<A>) -> Option<Owner>
     ensures owner { result ≡ located (agreed_by consumer.now.base) consumer.now.own.confirmed }
     ensures shard { IfSome result (λ owner. owner.shard ≤ 5) }
     ensures more { IfSome result (λ _. consumer.now.own.confirmed < 2 ^ 48) }
@@ -129,7 +124,7 @@ pub(crate) fn next_covered<A: App>(consumer: &Node<ConsumerOwn<A>>) -> Option<Ow
 
 /// Confirms the next position, where it is covered and its record is applied: it is stored with its output, and shown.
 fn confirm<A: App>(
-    consumer: &mut Node<ConsumerOwn<A>>,
+    consumer: &mut Consumer<A>,
     alloc: Global,
     out: &mut Step,
 ) -> Result<(), OutOfMemory>
@@ -150,7 +145,7 @@ fn confirm<A: App>(
 
 /// Stores and shows a confirmed record with its output.
 fn show_confirmed<A: App>(
-    consumer: &Node<ConsumerOwn<A>>,
+    consumer: &Consumer<A>,
     alloc: Global,
     position: u64,
     rec: Record,
@@ -176,7 +171,7 @@ fn show_confirmed<A: App>(
 
 /// Lets output go out, where there is some.
 fn show_output<A: App>(
-    consumer: &Node<ConsumerOwn<A>>,
+    consumer: &Consumer<A>,
     bytes: Bytes,
     out: &mut Step,
 ) -> Result<(), OutOfMemory>

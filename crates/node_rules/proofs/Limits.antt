@@ -11,7 +11,7 @@ use Rattle.cut_core.proofs.AgreeingLemmas.{slots-applied_all}
 use Rattle.cut_core.proofs.Dense.{slice_get-index_of}
 use Rattle.cut_core.proofs.Finding.{count_of-le}
 use Rattle.cut_core.proofs.Reach.{covered-reach}
-use Rattle.record_codec.specs.Entries.{IsValidEntry}
+use Rattle.quota_table.specs.Entries.{IsValidEntry}
 use Rattle.spec_base.specs.Spelling.{IsValidNode}
 use Rattle.msg_wire.specs.Valid.{IsValidConfig, IsNodeOf}
 use Rattle.msg_wire.specs.Nodes.{is_sequencer, number_of, sequencers_of, consumers_of}
@@ -114,7 +114,7 @@ foldable (entries.Cut window round) valid = tt
 foldable (entries.Table after rounds rows) valid = (valid.1.0, valid.1.1, valid.2)
 foldable (entries.Remove window shard) valid = tt
 
-all_foldable : (known : List Entry) → AllByRecursion IsValidEntry known → AllByRecursion HasValidTable known
+pub all_foldable : (known : List Entry) → AllByRecursion IsValidEntry known → AllByRecursion HasValidTable known
 all_foldable [] valid = tt
 all_foldable (entry ∷ known) valid = (foldable entry valid.0, all_foldable known valid.1)
 

@@ -28,7 +28,8 @@ pub record IsTold {S : Type 0} (n : Node S) (event : Event) (s : Node S) (entry 
 
 -- a sequencer is asked for the entry of the next slot: the one that told of more, or the one whose turn it is at a tick
 pub data Asks {S : Type 0} (n : Node S) (event : Event) (s : Node S) : NodeId → Type 0 where
-  asks_on : (from : NodeId) (slot count : ℕ) (entry : Entry) → Comes n event from (whats.Decided slot count entry) → length s.base.known < s.base.seen → has_slot s.base ≡ true → Asks n event s from
+  asks_on : (from : NodeId) (slot count : ℕ) (entry : Entry) → Comes n event from (whats.Decided slot count entry) → length s.base.known < s.base.seen
+      → has_slot s.base ≡ true → Asks n event s from
   asks_at_tick : (to : NodeId) → event ≡ events.Tick → asked_by s.base ≡ Some to → has_slot s.base ≡ true → Asks n event s to
 
 -- with an entry what every node has became this, for a reason that a kind of node has, and what was agreed before it
@@ -55,11 +56,11 @@ abbrev pub restarted : {S : Type 0} → Places S → Node S → Turn S
 restarted p n = record { state = p.reset n; stable = []; sends = []; marks = p.shown n }
 
 -- what is kept at each place; facts are told of the node of a turn, so that they stand after what is only sent or shown; it
--- comes first, since what is known at a place is told of it
-pub record Sites {S : Type 0} (p : Places S) (W : Turn S → Type 0) (n : Node S) (event : Event) : Type 0 where
+-- comes first, since what is known at a place is told of it. Where an entry is learned the own part becomes another at once
+pub record SitesAfter {S : Type 0} (p : Places S) (after : Node S → Entry → S) (W : Turn S → Type 0) (n : Node S) (event : Event) : Type 0 where
   pub starts : W (started n)
   pub restarts : event ≡ events.Restart → W (restarted p n)
-  pub learns : (t : Turn S) (entry : Entry) → p.Learns n event t.state entry → W t → W (learned entry t)
+  pub learns : (t : Turn S) (entry : Entry) → p.Learns n event t.state entry → W t → W (put_own (after t.state entry) (learned entry t))
   pub sees : (t : Turn S) (from : NodeId) (slot count : ℕ) (entry : Entry) → Comes n event from (whats.Decided slot count entry) → W t → W (with_seen count t)
   pub ticks : (t : Turn S) → event ≡ events.Tick → W t → W (with_tick t)
   pub asks : (t : Turn S) (to : NodeId) → Asks n event t.state to → W t → W (send to (whats.Learn (count_known t)) t)
@@ -67,3 +68,10 @@ pub record Sites {S : Type 0} (p : Places S) (W : Turn S → Type 0) (n : Node S
   pub shows : (t : Turn S) (mark : Mark) → p.Shows n event t.state mark → W t → W (show mark t)
   pub stores : (t : Turn S) (item : Item) (own : S) → p.Stores n event t.state item own → W t → W (put_own own (store item t))
   pub changes : (t : Turn S) (own : S) → p.Changes n event t.state own → W t → W (put_own own t)
+
+-- of a kind whose own part stays as an entry is learned: what it does then are changes of their own
+abbrev pub same_own : {S : Type 0} → Node S → Entry → S
+same_own s entry = s.own
+
+abbrev pub Sites : {S : Type 0} → Places S → (Turn S → Type 0) → Node S → Event → Type 0
+Sites p W n event = SitesAfter p same_own W n event

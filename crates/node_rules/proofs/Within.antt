@@ -15,7 +15,7 @@ use Rattle.node_rules.specs.Names.events
 use Rattle.node_rules.specs.Nodes.{Base, Node, asked_by}
 use Rattle.node_rules.specs.Turns.{Turn, message_to}
 use Rattle.node_rules.proofs.Lists.{on_test, all_push}
-use Rattle.node_rules.proofs.Places.{Comes, IsTold, Asks, asks_on, asks_at_tick, Places, Sites}
+use Rattle.node_rules.proofs.Places.{Comes, IsTold, Asks, asks_on, asks_at_tick, Places, SitesAfter, same_own, Sites}
 
 -- ---- what names nodes of the cluster alone
 
@@ -24,10 +24,8 @@ abbrev pub HaveNodes : Config → List Row → Type 0
 HaveNodes c = AllByRecursion (λ (r : Row). r.shard < c.shards)
 
 abbrev pub HasNodes : Config → Entry → Type 0
-HasNodes c entries.Nothing = Unit {0}
-HasNodes c (entries.Cut window round) = Unit {0}
 HasNodes c (entries.Table after rounds rows) = HaveNodes c rows
-HasNodes c (entries.Remove window shard) = Unit {0}
+HasNodes c _ = Unit {0}
 
 abbrev pub MayHaveNodes : Config → Option Entry → Type 0
 MayHaveNodes c None = Unit {0}
@@ -47,22 +45,11 @@ HasClient c records.Noop = Unit {0}
 HasClient c (records.Data client number body) = client < length c.homes
 
 abbrev pub SaysWithin : Config → What → Type 0
-SaysWithin c (whats.Append first number body) = Unit {0}
-SaysWithin c (whats.Ack number position) = Unit {0}
-SaysWithin c (whats.AskFate first least) = Unit {0}
-SaysWithin c (whats.Fate next) = Unit {0}
 SaysWithin c (whats.Replicate local rec) = HasClient c rec
-SaysWithin c (whats.Replicated len) = Unit {0}
-SaysWithin c (whats.Report len) = Unit {0}
-SaysWithin c (whats.Fill wanted) = Unit {0}
-SaysWithin c (whats.Deliver local rec) = Unit {0}
-SaysWithin c (whats.Fetch local) = Unit {0}
-SaysWithin c (whats.Prepare slot ballot) = Unit {0}
 SaysWithin c (whats.Promise slot ballot report) = ReportHasNodes c report
 SaysWithin c (whats.Accept slot ballot entry) = HasNodes c entry
-SaysWithin c (whats.Accepted slot ballot) = Unit {0}
 SaysWithin c (whats.Decided slot count entry) = HasNodes c entry
-SaysWithin c (whats.Learn slot) = Unit {0}
+SaysWithin c _ = Unit {0}
 
 -- a message goes to a node of the cluster
 pub record GoesWithin (c : Config) (m : Message) : Type 0 where
@@ -72,9 +59,7 @@ pub record GoesWithin (c : Config) (m : Message) : Type 0 where
 abbrev pub TakesWithin : Config → Event → Type 0
 TakesWithin c (events.Deliver message) = SaysWithin c message.what
 TakesWithin c (events.Command command) = CommandHasNodes c command
-TakesWithin c (events.Submit by body) = Unit {0}
-TakesWithin c events.Tick = Unit {0}
-TakesWithin c events.Restart = Unit {0}
+TakesWithin c _ = Unit {0}
 
 -- ---- nodes and turns
 
@@ -98,7 +83,8 @@ node_within c (nodes.Shard n side) e = ltb-true n c.shards e
 node_within c (nodes.Client n) e = ltb-true n (length c.homes) e
 node_within c (nodes.Consumer n) e = ltb-true n c.consumers e
 
-pub range_within : (c : Config) (make : ℕ → NodeId) (from count : ℕ) → ((i : ℕ) → i < from + count → IsNodeOf c (make i)) → AllByRecursion (IsNodeOf c) (map make (range_with_len from count))
+pub range_within : (c : Config) (make : ℕ → NodeId) (from count : ℕ) → ((i : ℕ) → i < from + count → IsNodeOf c (make i))
+    → AllByRecursion (IsNodeOf c) (map make (range_with_len from count))
 range_within c make from zero each = tt
 range_within c make from (suc count) each = (each from (omega arith), range_within c make (from + 1) count (λ i below. each i (omega (arith, below))))
 
@@ -132,24 +118,24 @@ pub record ComesWithin (c : Config) (from : NodeId) (what : What) : Type 0 where
   pub to : NodeId
   pub goes : goes_between what from to ≡ true
 
-heeded_within : (c : Config) (me : NodeId) (m : Message) → SaysWithin c m.what → is_heeded c me m ≡ true → ComesWithin c m.from m.what
-heeded_within c me m says e =
+pub heeded_parts : (c : Config) (me : NodeId) (m : Message) → is_heeded c me m ≡ true → IsNodeOf c m.from × (goes_between m.what m.from m.to ≡ true)
+heeded_parts c me m e =
     let parts = and_parts (same_node m.to me && is_node_of c m.from) (not (same_node m.from m.to) && goes_between m.what m.from m.to) e in
-    record {
-      from_within = node_within c m.from (and_parts (same_node m.to me) (is_node_of c m.from) parts.0).1;
-      says = says;
-      to = m.to;
-      goes = (and_parts (not (same_node m.from m.to)) (goes_between m.what m.from m.to) parts.1).1;
-    }
+    (node_within c m.from (and_parts (same_node m.to me) (is_node_of c m.from) parts.0).1, (and_parts (not (same_node m.from m.to)) (goes_between m.what m.from m.to) parts.1).1)
 
-pub comes_within : {c : Config} {S : Type 0} {P : NodeId → S → Type 0} (n : Node S) (event : Event) (from : NodeId) (what : What) → Comes n event from what → IsWithin c S P n → TakesWithin c event → ComesWithin c from what
+heeded_within : (c : Config) (me : NodeId) (m : Message) → SaysWithin c m.what → is_heeded c me m ≡ true → ComesWithin c m.from m.what
+heeded_within c me m says e = let parts = heeded_parts c me m e in record { from_within = parts.0; says = says; to = m.to; goes = parts.1 }
+
+pub comes_within : {c : Config} {S : Type 0} {P : NodeId → S → Type 0} (n : Node S) (event : Event) (from : NodeId) (what : What) → Comes n event from what
+    → IsWithin c S P n → TakesWithin c event → ComesWithin c from what
 comes_within {c} n event from what comes is takes =
     let heeded : is_heeded c n.base.me comes.message ≡ true = subst (λ (d : Config). is_heeded d n.base.me comes.message ≡ true) is.cfg comes.heeded in
     subst (λ (what : What). ComesWithin c from what) comes.says
     (subst (λ (from : NodeId). ComesWithin c from comes.message.what) comes.by (heeded_within c n.base.me comes.message (subst (TakesWithin c) comes.same takes) heeded))
 
 -- a told entry names nodes of the cluster
-pub told_within : {c : Config} {S : Type 0} {P : NodeId → S → Type 0} (n : Node S) (event : Event) (s : Node S) (entry : Entry) → IsTold n event s entry → IsWithin c S P n → TakesWithin c event → HasNodes c entry
+pub told_within : {c : Config} {S : Type 0} {P : NodeId → S → Type 0} (n : Node S) (event : Event) (s : Node S) (entry : Entry) → IsTold n event s entry
+    → IsWithin c S P n → TakesWithin c event → HasNodes c entry
 told_within n event s entry told begins takes = (comes_within n event told.from (whats.Decided (length s.base.known) told.count entry) told.comes begins takes).says
 
 pub asks_within : {c : Config} {S : Type 0} {P : NodeId → S → Type 0} (n : Node S) (event : Event) (s : Node S) (to : NodeId)
@@ -168,11 +154,14 @@ pub record KeepsWithin {S : Type 0} (p : Places S) (c : Config) (P : NodeId → 
   pub changes : (s : Node S) (own : S) → p.Changes n event s own → IsWithin c S P s → P s.base.me own
 
 module _ {S : Type 0} (p : Places S) (c : Config) (P : NodeId → S → Type 0) (n : Node S) (event : Event) (keeps : KeepsWithin p c P n event) where
-  went : (t : Turn S) (to : NodeId) (what : What) → IsNodeOf c to × SaysWithin c what → StaysWithin c S P t → StaysWithin c S P (record t { sends = t.sends ++ message_to t what to ∷ [] })
+  went : (t : Turn S) (to : NodeId) (what : What) → IsNodeOf c to × SaysWithin c what → StaysWithin c S P t
+      → StaysWithin c S P (record t { sends = t.sends ++ message_to t what to ∷ [] })
   went t to what goes stays = record { is = stays.is; sends = all_push (GoesWithin c) t.sends (message_to t what to) stays.sends (record { to = goes.0; what = goes.1 }) }
 
-  pub staying : IsValidConfig c → IsWithin c S P n → TakesWithin c event → Sites p (StaysWithin c S P) n event
-  staying valid begins takes = record {
+  pub staying_after : (after : Node S → Entry → S) → ((s : Node S) (entry : Entry) → IsWithin c S P s → P s.base.me (after s entry)) → IsValidConfig c
+      → IsWithin c S P n → TakesWithin c event
+      → SitesAfter p after (StaysWithin c S P) n event
+  staying_after after over valid begins takes = record {
     starts = record { is = begins; sends = tt };
     restarts = λ e. record { is = keeps.resets begins; sends = tt };
     learns = λ t entry why stays. record {
@@ -180,7 +169,7 @@ module _ {S : Type 0} (p : Places S) (c : Config) (P : NodeId → S → Type 0) 
         cfg = stays.is.cfg;
         me = stays.is.me;
         known = all_push (HasNodes c) t.state.base.known entry stays.is.known (keeps.learns t.state entry why stays.is);
-        own = stays.is.own;
+        own = over t.state entry stays.is;
       };
       sends = stays.sends;
     };
@@ -198,3 +187,6 @@ module _ {S : Type 0} (p : Places S) (c : Config) (P : NodeId → S → Type 0) 
       sends = stays.sends;
     };
   }
+
+  pub staying : IsValidConfig c → IsWithin c S P n → TakesWithin c event → Sites p (StaysWithin c S P) n event
+  staying valid begins takes = staying_after same_own (λ s entry is. is.own) valid begins takes

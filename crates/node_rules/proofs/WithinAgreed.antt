@@ -86,7 +86,8 @@ entry_within c a (entries.Table after rounds rows) has is =
 entry_within c a (entries.Remove window shard) has is =
     record { current = fewer_spots c a.current.spots a.rounds shard is.current; granted = tt; covered = is.covered }
 
-unless_within : (c : Config) (fault : Option Reason) (before after : Agreement) → AgreesWithin c before → AgreesWithin c after → AgreesWithin c (unless_void fault before after)
+unless_within : (c : Config) (fault : Option Reason) (before after : Agreement) → AgreesWithin c before → AgreesWithin c after
+    → AgreesWithin c (unless_void fault before after)
 unless_within c None before after one other = other
 unless_within c (Some reason) before after one other = one
 
@@ -95,7 +96,8 @@ applied_within c a entry has is =
     let done = unless_within c (fault_of a entry) a (after_entry a entry) is (entry_within c a entry has is) in
     record { current = done.current; granted = done.granted; covered = done.covered }
 
-applied_all_within : (c : Config) (a : Agreement) (known : List Entry) → AllByRecursion (HasNodes c) known → AgreesWithin c a → AgreesWithin c (applied_all a known)
+applied_all_within : (c : Config) (a : Agreement) (known : List Entry) → AllByRecursion (HasNodes c) known → AgreesWithin c a
+    → AgreesWithin c (applied_all a known)
 applied_all_within c a [] all is = is
 applied_all_within c a (entry ∷ known) all is = applied_all_within c (applied a entry) known all.1 (applied_within c a entry all.0 is)
 

@@ -9,6 +9,6 @@ abbrev pub base_of : Inside → Base
 base_of i = record { cfg = i.cfg; me = i.me; known = i.known.entries; seen = i.seen; ticks = i.ticks }
 
 -- what they agree on is told from the cluster's first window
-pub record IsKept (i : Inside) : Type 0 where
+pub record IsBaseInside (i : Inside) : Type 0 where
   pub first : i.known.first ≡ first_window i.cfg
   pub base : IsBase (base_of i)

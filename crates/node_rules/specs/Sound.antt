@@ -1,7 +1,7 @@
 -- What holds of every node's base.
 use Rattle.std.specs.Prelude.{◌≤◌, ◌^◌, length}
 use Rattle.std.specs.List.{AllByRecursion}
-use Rattle.record_codec.specs.Entries.{IsValidEntry}
+use Rattle.quota_table.specs.Entries.{IsValidEntry}
 use Rattle.msg_wire.specs.Valid.{IsValidConfig, IsNodeOf}
 use Rattle.node_rules.specs.Bases.{Base}
 

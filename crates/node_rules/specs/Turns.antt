@@ -2,6 +2,7 @@
 use Rattle.std.specs.Prelude.{ℕ, List, [], ◌∷◌, ◌++◌, map, length}
 use Rattle.cut_core.specs.Agreements.{Agreement}
 use Rattle.node_rules.specs.Names.{NodeId, Config, Entry, Item, Message, What, Mark, Step}
+pub use Rattle.msg_wire.specs.Steps.{empty_step}
 use Rattle.node_rules.specs.Nodes.{Base, Node, agreed_by}
 
 pub record Turn (S : Type 0) : Type 0 where
@@ -17,10 +18,6 @@ started n = record { state = n; stable = []; sends = []; marks = [] }
 -- a node, and what a step of it has given so far
 abbrev pub turn_of : {S : Type 0} → Node S → Step → Turn S
 turn_of n step = record { state = n; stable = step.stable; sends = step.sends; marks = step.marks }
-
--- a step that gives nothing
-abbrev pub empty_step : Step
-empty_step = record { stable = []; sends = []; marks = [] }
 
 -- what a turn gives to those outside the node
 abbrev pub step_of : {S : Type 0} → Turn S → Step

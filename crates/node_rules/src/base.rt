@@ -1,5 +1,5 @@
 ghost use Rattle.std.specs.Prelude.{◌≡◌, ◌≤◌, ◌^◌, length, IfOk, OnErr, IsTrue};
-ghost use Rattle.record_codec.specs.Entries.{IsValidEntry};
+ghost use Rattle.quota_table.specs.Entries.{IsValidEntry};
 ghost use Rattle.cut_core.specs.Effects.{effect_of};
 ghost use Rattle.cut_core.specs.Soundness.{IsSound};
 ghost use Rattle.cut_core.specs.Consistency.{IsConsistent};
@@ -42,11 +42,11 @@ impl Model for NodeBase {
 
     ghost Value = { Base };
 
-    ghost use Rattle.node_rules.specs.Insides.{base_of, IsKept};
+    ghost use Rattle.node_rules.specs.Insides.{base_of, IsBaseInside};
 
     ghost view = { base_of };
 
-    ghost invariant = { IsKept };
+    ghost invariant = { IsBaseInside };
 }
 
 impl NodeBase {

@@ -2,16 +2,23 @@
 //!
 //! - [`NodeBase`]: the cluster, the node's name, the known entries and what they agree on.
 //! - [`Node`]: a base with what the kind of node has of its own; its methods are the rules of `specs/Rules.antt`.
-//! - [`is_heeded`]: which messages a node takes.
+//! - [`Learns`], [`Hears`], [`Kind`]: what a kind of node gives, its step table among it.
+//! - [`Living`]: a node of any kind, as it begins, comes back and takes its steps.
 //!
 //! The crates of the four kinds of node compose their steps of these rules.
 #![tactic(auto)]
 
 mod base;
-mod heeding;
+mod hearing;
+mod kind;
+mod learning;
+mod living;
 mod node;
 mod sends;
 
 pub use base::{MOST_ENTRIES, MOST_TICKS, NodeBase};
-pub use heeding::{is_heeded, is_node_of, number_of, same_node};
-pub use node::{Node, empty_step};
+pub use hearing::Hears;
+pub use kind::Kind;
+pub use learning::Learns;
+pub use living::Living;
+pub use node::Node;

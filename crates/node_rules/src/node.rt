@@ -1,19 +1,17 @@
 ghost use Rattle.std.specs.Prelude.{◌≡◌, ◌<◌, IfOk, OnOk, OnErr, IsTrue};
-ghost use Rattle.record_codec.specs.Entries.{IsValidEntry};
+ghost use Rattle.quota_table.specs.Entries.{IsValidEntry};
 ghost use Rattle.cut_core.specs.Effects.{effect_of};
 ghost use Rattle.msg_wire.specs.Heeded.{is_heeded};
 ghost use Rattle.node_rules.specs.Bases.{agreed_by, has_slot};
 ghost use Rattle.node_rules.specs.Nodes.{fit_known};
-ghost use Rattle.node_rules.specs.Turns.{turn_of, empty_step, store, send, show};
+ghost use Rattle.node_rules.specs.Turns.{turn_of, store, send, show};
 ghost use Rattle.node_rules.specs.Rules.{ask, ask_on, learned, tick};
 
 use crate::base::NodeBase;
-use crate::heeding::is_heeded;
 use cut_core::Effect;
-use msg_wire::{Item, Items, Mark, Marks, Message, Messages, Step, What};
+use msg_wire::{Item, Mark, Message, Step, What, is_heeded};
 use quota_table::{Entry, OutOfMemory};
 use spec_base::NodeId;
-use std::alloc::Global;
 
 /// A node: what every node has, and what its kind has.
 ///
@@ -28,19 +26,9 @@ pub struct Node<S> {
     pub own: S,
 }
 
-/// A step that gives nothing. It takes no memory.
-pub fn empty_step(alloc: Global) -> Step
-    ensures { result ≡ empty_step }
-{
-    Step {
-        stable: Items::new(alloc),
-        sends: Messages::new(alloc),
-        marks: Marks::new(alloc),
-    }
-}
-
 impl<S> Node<S> {
     /// Whether the node takes a message that came. Any other does nothing by itself.
+    #[inline(always)]
     pub fn heeds(&self, message: &Message) -> bool
         ensures { result ≡ is_heeded self.now.base.cfg self.now.base.me message.now }
     {
@@ -48,6 +36,7 @@ impl<S> Node<S> {
     }
 
     /// Stores an item.
+    #[inline(always)]
     pub fn store(&self, item: Item, out: &mut Step) -> Result<(), OutOfMemory>
         ensures { OnOk result (turn_of self.now out.new ≡ store item (turn_of self.now out.old)) }
     {
@@ -55,6 +44,7 @@ impl<S> Node<S> {
     }
 
     /// Sends to a node.
+    #[inline(always)]
     pub fn send(&self, to: NodeId, what: What, out: &mut Step) -> Result<(), OutOfMemory>
         ensures { OnOk result (turn_of self.now out.new ≡ send to what (turn_of self.now out.old)) }
     {
@@ -66,6 +56,7 @@ impl<S> Node<S> {
     }
 
     /// Shows a mark.
+    #[inline(always)]
     pub fn show(&self, mark: Mark, out: &mut Step) -> Result<(), OutOfMemory>
         ensures { OnOk result (turn_of self.now out.new ≡ show mark (turn_of self.now out.old)) }
     {

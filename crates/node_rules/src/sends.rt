@@ -5,9 +5,8 @@ ghost use Rattle.std.specs.Prelude.{◌≡◌, ◌∷◌, [], OnOk};
 ghost use Rattle.msg_wire.specs.Nodes.{sequencers_of, replicas_of, all_replicas_of, clients_of, consumers_of, nodes_of, without_node};
 ghost use Rattle.node_rules.specs.Turns.{turn_of, send, send_all};
 
-use crate::heeding::same_node;
 use crate::node::Node;
-use msg_wire::{Step, What};
+use msg_wire::{Step, What, same_node};
 use quota_table::OutOfMemory;
 use spec_base::{NodeId, Side};
 
@@ -34,6 +33,7 @@ impl<S> Node<S> {
 
     /// Sends to a shard's primary, then to its backup.
     #[tactic(auto, using(crate::proofs::SendLemmas::send_all_append))]
+    #[inline(always)]
     pub fn send_to_replicas(
         &self,
         shard: u8,
@@ -68,6 +68,7 @@ impl<S> Node<S> {
     }
 
     /// Sends a copy to a node.
+    #[inline(always)]
     fn send_copy(&self, to: NodeId, what: &What, out: &mut Step) -> Result<(), OutOfMemory>
         ensures { OnOk result (turn_of self.now out.new ≡ send to what.now (turn_of self.now out.old)) }
     {
@@ -75,6 +76,7 @@ impl<S> Node<S> {
     }
 
     /// Sends to a node, unless it is the node itself.
+    #[inline(always)]
     fn send_to_other(&self, to: NodeId, what: &What, out: &mut Step) -> Result<(), OutOfMemory>
         ensures { OnOk result (turn_of self.now out.new ≡ send_all (without_node self.now.base.me (to ∷ [])) what.now (turn_of self.now out.old)) }
     {

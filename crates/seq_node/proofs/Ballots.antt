@@ -1,16 +1,18 @@
--- What an attempt brings to the own acceptor is what the stored items bring: a new ballot is above its promise, and so is
--- the ballot of a value that is sent.
-use Rattle.std.proofs.Common.{◌≡◌, ℕ, ◌+◌, ◌*◌, ◌/◌, ◌%◌, ◌<◌, ◌≤◌, ◌==◌, max, Bool, true, false, Option, Some, None, is_none, is_some, unwrap_or, length, refl, ap, div-add-mod', mod-lt, arith}
+-- Ballots of attempts: how an attempt starts at a slot's acceptor, and that what it brings to the acceptor is what the stored items bring,
+-- as a new ballot is above its promise; and the greater of two reports.
+use Rattle.std.proofs.Common.{◌≡◌, ℕ, ◌+◌, ◌*◌, ◌/◌, ◌%◌, ◌<◌, ◌≤◌, ◌==◌, max, Bool, true, false, Option, Some, None, is_none, is_some, unwrap_or, length, refl, ap, div-add-mod', mod-lt, arith, ◌-◌, ◌^◌, List, ◌++◌, replicate, get_or, option_map, sym, ◌∙◌}
 use Rattle.std.specs.Prelude.{if◌then◌else◌, nat_lt}
-use Rattle.std.proofs.lemmas.Bool.{ltb-true, and_parts}
-use Rattle.majority.specs.Ballots.{next_ballot, greater_promise, is_majority}
-use Rattle.majority.specs.Acceptors.{AcceptorState, with_promise, with_vote, prepare_answer_unless, after_prepare_answer, after_prepare, accept_answer_unless, after_accept_answer, after_accept}
-use Rattle.majority.specs.Proposers.{Attempt, takes_zero, ballot_for, greater_report, value_of_report, value_to_send, with_heard, promise_answer_unless, promise_answer}
-use Rattle.majority.specs.declared.answers.PromiseAnswer.TheVariants as promise
-use Rattle.record_codec.specs.Entries.{IsValidEntry}
+use Rattle.std.proofs.lemmas.Bool.{cond-false, ltb-true, le-ltb, and_parts, cond-true, lt-ltb}
+use Rattle.majority.specs.Ballots.{next_ballot, greater_promise}
+use Rattle.majority.specs.Acceptors.{AcceptorState, with_promise, with_vote, prepare_answer_unless, after_prepare_answer, after_prepare, accept_answer_unless, after_accept_answer, after_accept, fresh_acceptor}
+use Rattle.majority.specs.Proposers.{takes_zero, ballot_for, greater_report, value_of_report}
+use Rattle.quota_table.specs.Entries.{IsValidEntry}
 use Rattle.msg_wire.specs.Valid.{IsValidReport}
 use Rattle.node_rules.specs.Names.{Entry}
 use Rattle.node_rules.proofs.Lists.{on_test}
+use Rattle.std.proofs.lemmas.Grind.{common_steps}
+use Rattle.seq_node.specs.States.{reaching}
+use Rattle.seq_node.specs.Attempts.{ballot_below}
 
 -- ---- an acceptor that has promised nothing greater
 
@@ -32,11 +34,7 @@ next-above replica n floor some =
 
 none_greater : (promised : Option ℕ) (ballot : ℕ) → unwrap_or promised 0 ≤ ballot → greater_promise promised ballot ≡ None
 none_greater None ballot above = refl
-none_greater (Some p) ballot above = below_none (nat_lt ballot p) p (λ greater. let less : ballot < p = ltb-true ballot p greater in omega (arith, less, above))
-  where
-    below_none : (b : Bool) (p : ℕ) → (b ≡ true → ⊥) → (if b then Some p else None) ≡ None
-    below_none true p never = absurd (never refl)
-    below_none false p never = refl
+none_greater (Some p) ballot above = cond-false (nat_lt ballot p) (Some p) None (le-ltb ballot p above)
 
 nothing_promised : (promised : Option ℕ) (ballot : ℕ) → is_none promised ≡ true → greater_promise promised ballot ≡ None
 nothing_promised None ballot none = refl
@@ -47,30 +45,6 @@ open_ballot replica n highest own some =
     on_test (λ (ballot : ℕ). greater_promise own.promised ballot ≡ None) (takes_zero replica own) 0 (next_ballot replica n (max highest (unwrap_or own.promised 0)))
     (λ zero_taken. nothing_promised own.promised 0 (and_parts (is_none own.promised) (is_none own.accepted) (and_parts (replica == 0) _ zero_taken).1).0)
     (λ _. none_greater own.promised _ (omega (arith, next-above replica n (max highest (unwrap_or own.promised 0)) some)))
-
--- ---- a value that is sent
-
-sent_heard : (enough : Bool) (have : ℕ) (told value : Entry) → (if enough then promise.Send told else promise.Waiting have) ≡ promise.Send value → told ≡ value
-sent_heard true have told value e = cc
-sent_heard false have told value e = absurd (cc)
-
-sent_unless : (promised : Option ℕ) (own : AcceptorState Entry) (heard : Attempt Entry) (value : Entry)
-    → promise_answer_unless promised own heard ≡ promise.Send value
-    → (promised ≡ None) × (value_to_send own heard ≡ value)
-sent_unless (Some p) own heard value e = absurd (cc)
-sent_unless None own heard value e = (refl, sent_heard (is_majority heard.n heard.promises) (length heard.promises) (value_to_send own heard) value e)
-
-sent_by : (late : Bool) (promised : Option ℕ) (own : AcceptorState Entry) (heard : Attempt Entry) (value : Entry)
-    → (if late then promise.Late else promise_answer_unless promised own heard) ≡ promise.Send value
-    → (promised ≡ None) × (value_to_send own heard ≡ value)
-sent_by true promised own heard value e = absurd (cc)
-sent_by false promised own heard value e = sent_unless promised own heard value e
-
--- nothing greater is promised here, and the value is the one to send
-pub sent : (replica : ℕ) (report : Option (ℕ × Entry)) (own : AcceptorState Entry) (a : Attempt Entry) (value : Entry)
-    → promise_answer replica report own a ≡ promise.Send value
-    → (greater_promise own.promised a.ballot ≡ None) × (value_to_send own (with_heard replica report a) ≡ value)
-sent replica report own a value e = sent_by (is_some a.sending) (greater_promise own.promised a.ballot) own (with_heard replica report a) value e
 
 -- ---- reports
 
@@ -83,3 +57,21 @@ on_greater P (Some first) (Some second) one other = on_test P (nat_lt first.0 se
 pub valid_reported : (report : Option (ℕ × Entry)) (wish : Entry) → IsValidReport report → IsValidEntry wish → IsValidEntry (value_of_report report wish)
 valid_reported None wish told valid = valid
 valid_reported (Some (ballot, entry)) wish told valid = told.1
+
+-- ---- an attempt starts
+
+module _ {X : Type 0} where
+  padded : (xs : List X) (slot : ℕ) (x d : X) → get_or (xs ++ replicate (slot + 1 - length xs) x) slot d ≡ get_or xs slot x
+  padded xs slot x d = grind (arith, common_steps)
+
+-- what stands at a slot of acceptors that were made to reach it
+pub reached : (acceptors items : List (AcceptorState Entry)) (slot : ℕ) (own : AcceptorState Entry) → items ≡ reaching (slot + 1) acceptors
+    → own ≡ get_or items slot own
+    → own ≡ get_or acceptors slot fresh_acceptor
+reached acceptors items slot own made here = here ∙ ap (λ (xs : List (AcceptorState Entry)). get_or xs slot own) made ∙ padded acceptors slot fresh_acceptor own
+
+pub started_below : {X : Type 0} → (make : ℕ → X) (ballot : ℕ) → ballot < 2 ^ 31 → Some (make ballot) ≡ option_map make (ballot_below ballot)
+started_below make ballot low = ap (option_map make) (sym (cond-true (nat_lt ballot (2 ^ 31)) _ _ (lt-ltb ballot (2 ^ 31) low)))
+
+pub not_started : {X : Type 0} → (make : ℕ → X) (ballot : ℕ) → 2 ^ 31 ≤ ballot → None ≡ option_map make (ballot_below ballot)
+not_started make ballot high = ap (option_map make) (sym (cond-false (nat_lt ballot (2 ^ 31)) _ _ (le-ltb ballot (2 ^ 31) high)))

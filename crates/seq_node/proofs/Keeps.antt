@@ -1,196 +1,240 @@
--- What holds of a sequencer's turn that began at a node, and what changes of its parts keep.
-use Rattle.std.proofs.Common.{◌≡◌, ℕ, ◌+◌, ◌-◌, ◌<◌, ◌≤◌, ◌==◌, Bool, true, List, [], ◌∷◌, length, set, replicate, drop, Option, Some, None, refl, sym, ap, subst, ◌∙◌, arith}
-use Rattle.std.specs.List.{AllByRecursion}
+-- What each place of a sequencer's table keeps: it stays in order, what it stores and sends is valid, and its items lead to what a restart leaves.
+use Rattle.std.proofs.Common.{◌≡◌, ℕ, ◌+◌, ◌<◌, Bool, true, false, List, [], ◌∷◌, length, set, Option, Some, None, refl, sym, ap, subst, ◌∙◌, arith}
 use Rattle.std.specs.Prelude.{if◌then◌else◌}
-use Rattle.std.proofs.lemmas.Bool.{eq-eqb}
-use Rattle.std.proofs.lemmas.List.{length-append, length-set, length-replicate}
-use Rattle.std.proofs.lemmas.List.Sums.{fold-append}
+use Rattle.std.proofs.lemmas.Bool.{ltb-true, lt-ltb}
+use Rattle.std.proofs.lemmas.List.{length-append}
 use Rattle.spec_base.specs.Spelling.{IsValidNode}
-use Rattle.majority.specs.Acceptors.{AcceptorState, fresh_acceptor}
-use Rattle.record_codec.specs.Entries.{IsValidEntry}
-use Rattle.msg_wire.specs.Entries.{is_entry}
+use Rattle.majority.specs.Ballots.{greater_promise}
+use Rattle.majority.specs.Acceptors.{AcceptorState, fresh_acceptor, with_promise, with_vote}
+use Rattle.majority.specs.Proposers.{Attempt, with_heard, greater_report}
+use Rattle.quota_table.specs.Entries.{IsValidEntry}
 use Rattle.msg_wire.specs.Nodes.{number_of}
-use Rattle.msg_wire.specs.Valid.{IsValidMessage, IsValidItem, IsValidWhat}
-use Rattle.node_rules.specs.Names.{NodeId, Entry, What, Item}
+use Rattle.msg_wire.specs.Valid.{IsBallot, IsValidConfig, IsValidReport, IsValidCommand, IsValidWhat, IsValidItem, IsValidEvent}
+use Rattle.node_rules.specs.Names.{NodeId, Entry, What, Item, Event}
 use Rattle.node_rules.specs.Names.items
 use Rattle.node_rules.specs.Nodes.{Base, Node, has_slot, knowing, reset_base, with_own}
-use Rattle.node_rules.specs.Turns.{Turn, message_to, send, put_own, store, own_of, agreed}
-use Rattle.node_rules.specs.Rules.{learn, with_seen, with_tick}
-use Rattle.node_rules.proofs.Limits.{node_valid, base_knowing, base_seeing, base_ticking}
-use Rattle.seq_node.specs.States.{SlotAttempt, SequencerState, only_acceptors, acceptor_at, reaching, with_attempt, with_idle}
-use Rattle.seq_node.specs.Learning.{wish_granted, attempt_over, on_learned}
+use Rattle.node_rules.specs.Sound.{IsBase}
+use Rattle.node_rules.specs.Turns.{started}
+use Rattle.node_rules.proofs.Lists.{all_push, all_at}
+use Rattle.node_rules.proofs.Limits.{seqs_within}
+use Rattle.node_rules.proofs.Telling.{with_entry}
+use Rattle.node_rules.proofs.Kept.{comes_valid, told_valid, Keeping, KeepsAfter}
+use Rattle.seq_node.specs.States.{SlotAttempt, SequencerState, only_acceptors, acceptor_at, reaching, with_idle}
+use Rattle.seq_node.specs.Attempts.{new_ballot}
 use Rattle.seq_node.specs.Restart.{fit, reset_of}
-use Rattle.seq_node.specs.Sound.{IsAcceptor, AreAcceptors, AreWishes, IsOwn, IsAttempt, MayBeAttempt}
-use Rattle.seq_node.specs.UnderWay.{IsKept}
-use Rattle.node_rules.proofs.Lists.{on_test, all_append, all_push, all_replicate}
-use Rattle.seq_node.proofs.Lists.{all_set, all_or}
-use Rattle.seq_node.proofs.Limits.{slots_known}
+use Rattle.seq_node.specs.Sound.{MayBeValid, IsAcceptor, IsAttempt, MayBeAttempt, IsOrderly}
+use Rattle.seq_node.proofs.Limits.{slots_known, valid_wanted, IsWanted}
+use Rattle.seq_node.proofs.Others.{valid_other_sequencers, valid_other_nodes}
+use Rattle.seq_node.proofs.Proposals.{valid_value}
+use Rattle.seq_node.proofs.Ballots.{promises_it, accepts_it, open_ballot, on_greater, valid_reported}
+use Rattle.seq_node.proofs.Orderly.{IsOver, set_back, own_with, own_wishing, acceptor_valid, standing, further, acceptor_put, acceptor_changed, over_is, report_put, reset_sound}
+use Rattle.seq_node.proofs.Places.{AsksFor, by_learn, by_prepare, by_accept, Learns, told, chosen, Counts, Promising, promise_comes, promise_alone, Waits, is_late, is_lower, is_waiting, Sends, Says, tells, announces, promises, accepts, prepares, proposes, fills, begun, Stores, promised, accepted, begins_at_once, begins, sends, Changes, waits, hears, reports, wishes, idles, over, sequencer_places}
 
--- ---- what is sent and counted
+-- of its own name holds P
+abbrev pub IsOrderlyAs : (NodeId → Type 0) → Node SequencerState → Type 0
+IsOrderlyAs P s = IsOrderly s × P s.base.me
 
-pub kept_send : (n : Node SequencerState) (to : NodeId) (what : What) (t : Turn SequencerState) → IsValidNode to × IsValidWhat what → IsKept n t
-    → IsKept n (send to what t)
-kept_send n to what t goes is = record {
-  sound = is.sound;
-  stored = is.stored;
-  stable = is.stable;
-  sends =
-      all_push IsValidMessage t.sends (message_to t what to) is.sends
-      (record { from = node_valid t.state.base.cfg t.state.base.me is.sound.base.cfg is.sound.base.me; to = goes.0; what = goes.1 });
-}
+abbrev pub sequencer_keeping : (NodeId → Type 0) → Keeping SequencerState
+sequencer_keeping P = record { Is = IsOrderlyAs P; fit = fit; Leads = λ a s. a ≡ reset_of s }
 
-pub kept_seen : (n : Node SequencerState) (count : ℕ) (t : Turn SequencerState) → count ≤ 1000000 → IsKept n t → IsKept n (with_seen count t)
-kept_seen n count t most is = record {
-  sound = record { base = base_seeing count t.state.base most is.sound.base; own = is.sound.own; attempt = is.sound.attempt };
-  stored = is.stored;
-  stable = is.stable;
-  sends = is.sends;
-}
+-- ---- what a node in order has
 
-pub kept_tick : (n : Node SequencerState) (t : Turn SequencerState) → IsKept n t → IsKept n (with_tick t)
-kept_tick n t is = record {
-  sound = record { base = base_ticking t.state.base is.sound.base; own = is.sound.own; attempt = is.sound.attempt };
-  stored = is.stored;
-  stable = is.stable;
-  sends = is.sends;
-}
+-- a new ballot is above what the own acceptor has promised
+new_open : (s : Node SequencerState) (ballot : ℕ) → IsValidConfig s.base.cfg → ballot ≡ new_ballot (length s.base.known) (started s)
+    → greater_promise (acceptor_at s.own (length s.base.known)).promised ballot ≡ None
+new_open s ballot valid is =
+    subst (λ (b : ℕ). greater_promise (acceptor_at s.own (length s.base.known)).promised b ≡ None) (sym is)
+    (open_ballot (number_of s.base.me) s.base.cfg.seqs _ (acceptor_at s.own (length s.base.known)) (seqs_within s.base.cfg.seqs valid.seqs).0)
 
--- ---- what it has of its own
+-- the value that an attempt sends
+sent_valid : (s : Node SequencerState) (a : SlotAttempt) (replica : ℕ) (report : Option (ℕ × Entry)) (value : Entry) → IsOrderly s → s.own.attempt ≡ Some a
+    → IsValidReport report
+    → Sends s a replica report value → IsValidEntry value
+sent_valid s a replica report value is here reported sent =
+    let at = standing s a is here in
+    let heard = on_greater IsValidReport a.attempt.reported report at.reported reported in
+    subst IsValidEntry sent.value_is
+    (valid_reported (greater_report (acceptor_at s.own a.slot).accepted (with_heard replica report a.attempt).reported) a.attempt.wish
+    (on_greater IsValidReport (acceptor_at s.own a.slot).accepted (with_heard replica report a.attempt).reported (acceptor_valid s.own a.slot is.own) heard) at.wish)
 
--- the node's part of its own, and what may be its attempt
-abbrev pub HasAttempt : Base → SequencerState → Option SlotAttempt → Type 0
-HasAttempt b s o = MayBeAttempt (number_of b.me) b.cfg.seqs (length b.known) (length s.acceptors) o
+-- a new attempt: it votes for its value at once, or promises its ballot
+pub begun_orderly : (at_once : Bool) (ballot : ℕ) (value : Entry) (s : Node SequencerState) → IsOrderly s → has_slot s.base ≡ true → IsBallot ballot
+    → IsValidEntry value
+    → IsOrderly (with_own (begun at_once ballot value s) s)
+begun_orderly true ballot value s is slot small good =
+    let low = ltb-true _ _ slot in
+    acceptor_put s (length s.base.known) _ _ 0 is low (small, good) (omega arith)
+    (λ more longer within. record { replica_is = refl; seqs_are = refl; slot = refl; slot_limit = low; acceptor = within; ballot = small; wish = good; reported = tt; sending = good })
+begun_orderly false ballot value s is slot small good =
+    let low = ltb-true _ _ slot in
+    acceptor_put s (length s.base.known) _ _ 0 is low (acceptor_valid s.own (length s.base.known) is.own) (omega arith)
+    (λ more longer within. record { replica_is = refl; seqs_are = refl; slot = refl; slot_limit = low; acceptor = within; ballot = small; wish = good; reported = tt; sending = tt })
 
--- what a restart leaves, of the known entries and the acceptors
-abbrev pub left_with : Base → List (AcceptorState Entry) → Node SequencerState
+-- ---- what a restart leaves
+
+-- of known entries and acceptors
+abbrev left_with : Base → List (AcceptorState Entry) → Node SequencerState
 left_with b acceptors = record { base = reset_base b; own = only_acceptors acceptors }
 
-pub attempt_at : (b : Base) (s : SequencerState) (a : SlotAttempt) → HasAttempt b s s.attempt → s.attempt ≡ Some a
-    → IsAttempt (number_of b.me) b.cfg.seqs (length b.known) (length s.acceptors) a
-attempt_at b s a is e = subst (λ (o : Option SlotAttempt). HasAttempt b s o) e is
+-- and with another acceptor at a slot
+abbrev left_at : Node SequencerState → ℕ → AcceptorState Entry → Node SequencerState
+left_at s slot acceptor = left_with s.base (set (reaching (slot + 1) s.own.acceptors) slot acceptor)
 
--- another part of its own, with the same acceptors
-pub kept_own : (n : Node SequencerState) (s : SequencerState) (t : Turn SequencerState) → IsOwn s → HasAttempt t.state.base s s.attempt
-    → s.acceptors ≡ t.state.own.acceptors → IsKept n t → IsKept n (put_own s t)
-kept_own n s t own attempt same is = record {
-  sound = record { base = is.sound.base; own = own; attempt = attempt };
-  stored = is.stored ∙ ap (left_with t.state.base) (sym same);
-  stable = is.stable;
-  sends = is.sends;
-}
+brings_promise : (s : Node SequencerState) (slot ballot : ℕ) → greater_promise (acceptor_at s.own slot).promised ballot ≡ None
+    → fit (reset_of s) (items.Promised slot ballot) ≡ left_at s slot (with_promise ballot (acceptor_at s.own slot))
+brings_promise s slot ballot none = ap (left_at s slot) (promises_it ballot (acceptor_at s.own slot) none)
 
--- an item is stored that brings the acceptors that this part has
-pub kept_item : (n : Node SequencerState) (item : Item) (s : SequencerState) (t : Turn SequencerState) → IsOwn s → HasAttempt t.state.base s s.attempt
-    → IsValidItem item
-    → fit (reset_of t.state) item ≡ reset_of (with_own s t.state) → IsKept n t → IsKept n (store item (put_own s t))
-kept_item n item s t own attempt valid brings is = record {
-  sound = record { base = is.sound.base; own = own; attempt = attempt };
-  stored = fold-append fit (reset_of n) t.stable (item ∷ []) ∙ ap (λ (m : Node SequencerState). fit m item) is.stored ∙ brings;
-  stable = all_push IsValidItem t.stable item is.stable valid;
-  sends = is.sends;
-}
-
--- ---- acceptors
-
-pub length-reaching : (acceptors : List (AcceptorState Entry)) (slot : ℕ) (acceptor : AcceptorState Entry)
-    → length (set (reaching (slot + 1) acceptors) slot acceptor) ≡ length acceptors + (slot + 1 - length acceptors)
-length-reaching acceptors slot acceptor =
-    length-set (reaching (slot + 1) acceptors) slot acceptor ∙ length-append acceptors (replicate (slot + 1 - length acceptors) fresh_acceptor)
-    ∙ ap (λ (count : ℕ). length acceptors + count) (length-replicate (slot + 1 - length acceptors) fresh_acceptor)
-
--- what holds of fresh acceptors, of all that are there and of a new one
-pub all_reaching : (P : AcceptorState Entry → Type 0) (acceptors : List (AcceptorState Entry)) (slot : ℕ) (acceptor : AcceptorState Entry) → P fresh_acceptor
-    → AllByRecursion P acceptors → P acceptor
-    → AllByRecursion P (set (reaching (slot + 1) acceptors) slot acceptor)
-all_reaching P acceptors slot acceptor fresh all here =
-    all_set P (reaching (slot + 1) acceptors) slot acceptor
-    (all_append P acceptors (replicate (slot + 1 - length acceptors) fresh_acceptor) all (all_replicate P (slot + 1 - length acceptors) fresh_acceptor fresh)) here
-
-pub acceptors_with : (acceptors : List (AcceptorState Entry)) (slot : ℕ) (acceptor : AcceptorState Entry) → slot < 1000000 → IsAcceptor acceptor
-    → AreAcceptors acceptors
-    → AreAcceptors (set (reaching (slot + 1) acceptors) slot acceptor)
-acceptors_with acceptors slot acceptor low valid are =
-    record { each = all_reaching IsAcceptor acceptors slot acceptor tt are.each valid; few = omega (arith, length-reaching acceptors slot acceptor, low, are.few) }
-
-pub acceptor_valid : (s : SequencerState) (slot : ℕ) → IsOwn s → IsAcceptor (acceptor_at s slot)
-acceptor_valid s slot is = all_or IsAcceptor s.acceptors slot fresh_acceptor is.acceptors.each tt
-
--- an attempt is one among more acceptors
-pub attempt_longer : (replica seqs next slots more : ℕ) (o : Option SlotAttempt) → slots ≤ more → MayBeAttempt replica seqs next slots o
-    → MayBeAttempt replica seqs next more o
-attempt_longer replica seqs next slots more None longer is = tt
-attempt_longer replica seqs next slots more (Some a) longer is = record {
-  replica_is = is.replica_is;
-  seqs_are = is.seqs_are;
-  slot = is.slot;
-  slot_limit = is.slot_limit;
-  acceptor = omega (arith, is.acceptor, longer);
-  ballot = is.ballot;
-  wish = is.wish;
-  reported = is.reported;
-  sending = is.sending;
-}
+brings_vote : (s : Node SequencerState) (slot ballot : ℕ) (entry : Entry) → greater_promise (acceptor_at s.own slot).promised ballot ≡ None
+    → fit (reset_of s) (items.Accepted slot ballot entry) ≡ left_at s slot (with_vote ballot entry (acceptor_at s.own slot))
+brings_vote s slot ballot entry none = ap (left_at s slot) (accepts_it ballot entry (acceptor_at s.own slot) none)
 
 -- ---- a learned entry
 
-own_granted : (wished : Option Entry) (entry : Entry) (s : SequencerState) → IsOwn s → IsOwn (wish_granted wished entry s)
-own_granted wished entry s is =
-    on_test IsOwn (is_entry wished entry) (record s { wishes = drop 1 s.wishes }) s
-    (λ _. record { acceptors = is.acceptors; primaries = is.primaries; backups = is.backups; wishes = without_first s.wishes is.wishes; idle = is.idle }) (λ _. is)
-  where
-    without_first : (wishes : List _) → AreWishes wishes → AreWishes (drop 1 wishes)
-    without_first [] are = are
-    without_first (wish ∷ wishes) are = record { each = are.each.1; few = omega (arith, are.few) }
+over_of : (s : Node SequencerState) (entry : Entry) → IsOrderly s → IsOver (with_idle 0 s.own) (over s entry)
+over_of s entry is =
+    over_is s.own.attempt _ entry (with_idle 0 s.own) refl (own_with s.own.acceptors s.own.attempt 0 s.own is.own.acceptors (omega arith) is.own)
+    (λ a here. (standing s a is here).slot ∙ sym (slots_known s.base))
 
-own_over : (o : Option SlotAttempt) (slot : ℕ) (entry : Entry) (s : SequencerState) → IsOwn s → IsOwn (attempt_over o slot entry s)
-own_over None slot entry s is = is
-own_over (Some a) slot entry s is =
-    on_test IsOwn (a.slot == slot) (wish_granted a.wished entry (with_attempt None s)) s
-    (λ _. own_granted a.wished entry (with_attempt None s) (record { acceptors = is.acceptors; primaries = is.primaries; backups = is.backups; wishes = is.wishes; idle = is.idle })) (λ _. is)
+knows_orderly : (s : Node SequencerState) (entry : Entry) → IsBase (knowing entry s.base) → IsOrderly s → IsOrderly (with_entry over entry s)
+knows_orderly s entry base is =
+    let ended = over_of s entry is in
+    record { base = base; own = ended.own; attempt = subst (MayBeAttempt _ _ _ _) (sym ended.none) tt }
 
-acceptors_over : (o : Option SlotAttempt) (slot : ℕ) (entry : Entry) (s : SequencerState) → (attempt_over o slot entry s).acceptors ≡ s.acceptors
-acceptors_over None slot entry s = refl
-acceptors_over (Some a) slot entry s =
-    on_test (λ (r : SequencerState). r.acceptors ≡ s.acceptors) (a.slot == slot) (wish_granted a.wished entry (with_attempt None s)) s
-    (λ _. on_test (λ (r : SequencerState). r.acceptors ≡ s.acceptors) (is_entry a.wished entry) (record s { wishes = drop 1 s.wishes; attempt = None }) (with_attempt None s) (λ _. refl) (λ _. refl))
-    (λ _. refl)
+leads_known : (s : Node SequencerState) (entry : Entry) → has_slot s.base ≡ true → IsOrderly s
+    → fit (reset_of s) (items.Known entry) ≡ reset_of (with_entry over entry s)
+leads_known s entry slot is =
+    ap (λ (b : Bool). if b then left_with (knowing entry s.base) s.own.acceptors else reset_of s) slot
+    ∙ ap (left_with (knowing entry s.base)) (sym (over_of s entry is).acceptors)
 
--- an attempt is for the slot that is next, so that it ends
-attempt_gone : (o : Option SlotAttempt) (slot : ℕ) (entry : Entry) (s : SequencerState) → s.attempt ≡ o
-    → ((a : SlotAttempt) → o ≡ Some a → (a.slot == slot) ≡ true) → (attempt_over o slot entry s).attempt ≡ None
-attempt_gone None slot entry s here ends = here
-attempt_gone (Some a) slot entry s here ends =
-    on_test (λ (r : SequencerState). r.attempt ≡ None) (a.slot == slot) (wish_granted a.wished entry (with_attempt None s)) s
-    (λ _. on_test (λ (r : SequencerState). r.attempt ≡ None) (is_entry a.wished entry) (record s { wishes = drop 1 s.wishes; attempt = None }) (with_attempt None s) (λ _. refl) (λ _. refl))
-    (λ other. let end = ends a refl in absurd (cc))
+-- ---- the places
 
-pub kept_learn : (n : Node SequencerState) (entry : Entry) (t : Turn SequencerState) → IsValidEntry entry → has_slot t.state.base ≡ true → IsKept n t
-    → IsKept n (learn on_learned entry t)
-kept_learn n entry t valid slot is =
-    let gone =
-    attempt_gone (own_of t).attempt (agreed t).slots entry (with_idle 0 (own_of t)) refl
-    (λ a e. let at = attempt_at t.state.base (own_of t) a is.sound.attempt e in eq-eqb a.slot (agreed t).slots (at.slot ∙ sym (slots_known t.state.base)))
-    in
-    let same = acceptors_over (own_of t).attempt (agreed t).slots entry (with_idle 0 (own_of t)) in
+module _ (n : Node SequencerState) (event : Event) (valid : IsValidEvent event) where
+  asker_valid : (from : NodeId) (slot : ℕ) → AsksFor n event from slot → IsValidNode from
+  asker_valid from slot (by_learn comes) = (comes_valid n event from _ comes valid).0
+  asker_valid from slot (by_prepare ballot comes) = (comes_valid n event from _ comes valid).0
+  asker_valid from slot (by_accept ballot entry comes) = (comes_valid n event from _ comes valid).0
+
+  promise_valid : (s : Node SequencerState) (slot ballot replica : ℕ) (report : Option (ℕ × Entry)) → Promising n event s slot ballot replica report
+      → IsValidReport report
+  promise_valid s slot ballot _ report (promise_comes from _ comes) = (comes_valid n event from _ comes valid).1.2
+  promise_valid s slot ballot _ _ (promise_alone one) = tt
+
+  says_valid : (s : Node SequencerState) (to : NodeId) (what : What) → Says n event s to what → IsOrderly s → IsValidNode to × IsValidWhat what
+  says_valid s to _ (tells _ slot entry why known here) is =
+      let low : slot < length s.base.known = ltb-true _ _ known in
+      (asker_valid to slot why, (omega (arith, low, is.base.few), omega (arith, low), is.base.few, all_at IsValidEntry s.base.known slot entry is.base.entries here))
+  says_valid s to _ (announces _ i slot entry at more here) is = (
+    all_at IsValidNode _ i to (valid_other_nodes s.base.cfg s.base.me is.base.cfg) at,
+    (omega (arith, more, is.base.few), omega arith, omega (arith, more, is.base.few), all_at IsValidEntry s.base.known slot entry is.base.entries here),
+  )
+  says_valid s to _ (promises _ slot ballot report comes unknown here) is =
+      let come = comes_valid n event to _ comes valid in
+      (come.0, (come.1.0, come.1.1, subst IsAcceptor here (acceptor_valid s.own slot is.own)))
+  says_valid s to _ (accepts _ slot ballot entry comes unknown here) is = let come = comes_valid n event to _ comes valid in (come.0, (come.1.0, come.1.1))
+  says_valid s to _ (prepares _ i a at stands next none here) is =
+      let own = standing s a is stands in
+      (all_at IsValidNode _ i to (valid_other_sequencers s.base.cfg s.base.me is.base.cfg) at, (own.slot_limit, own.ballot))
+  says_valid s to _ (proposes _ i a value at stands sent here) is =
+      let own = standing s a is stands in
+      (all_at IsValidNode _ i to (valid_other_sequencers s.base.cfg s.base.me is.base.cfg) at, (own.slot_limit, own.ballot, subst MayBeValid sent own.sending))
+  says_valid s _ _ (fills i w e need at) is = all_at IsWanted _ i w (valid_wanted s.base _ is.base) at
+
+  learns_valid : (s : Node SequencerState) (entry : Entry) → Learns n event s entry → IsOrderly s → IsValidEntry entry × (has_slot s.base ≡ true)
+  learns_valid s entry (told comes) is = told_valid n event s entry comes valid
+  learns_valid s entry (chosen a stands sent most) is =
+      let own = standing s a is stands in
+      (subst MayBeValid sent own.sending, lt-ltb _ _ (omega (arith, own.slot, own.slot_limit)))
+
+  -- the item, the node after it, and what a restart leaves of both
+  stores_valid : (s : Node SequencerState) (item : Item) (own : SequencerState) → Stores n event s item own → IsOrderly s
+      → IsValidItem item × IsOrderly (with_own own s) × (fit (reset_of s) item ≡ reset_of (with_own own s))
+  stores_valid s _ _ (promised from slot ballot comes opens) is =
+      let said = (comes_valid n event from _ comes valid).1 in
+      (said, acceptor_changed s slot _ is said.0 (acceptor_valid s.own slot is.own), brings_promise s slot ballot opens.none_greater)
+  stores_valid s _ _ (accepted from slot ballot entry comes opens) is =
+      let said = (comes_valid n event from _ comes valid).1 in
+      (said, acceptor_changed s slot _ is said.0 (said.1, said.2), brings_vote s slot ballot entry opens.none_greater)
+  stores_valid s _ _ (begins_at_once value starts) is =
+      let good : IsValidEntry value = subst MayBeValid starts.value_is (valid_value s is) in (
+        (ltb-true _ _ starts.slot, omega arith, good),
+        begun_orderly true 0 value s is starts.slot (omega arith) good,
+        brings_vote s (length s.base.known) 0 value (new_open s 0 is.base.cfg starts.ballot_is),
+      )
+  stores_valid s _ _ (begins ballot value starts above) is =
+      let good : IsValidEntry value = subst MayBeValid starts.value_is (valid_value s is) in (
+        (ltb-true _ _ starts.slot, ltb-true _ _ starts.low),
+        begun_orderly false ballot value s is starts.slot (ltb-true _ _ starts.low) good,
+        brings_promise s (length s.base.known) ballot (new_open s ballot is.base.cfg starts.ballot_is),
+      )
+  stores_valid s _ _ (sends a replica report value counts sent) is =
+      let at = standing s a is counts.stands in
+      let reported = promise_valid s a.slot a.attempt.ballot replica report counts.promise in
+      let good = sent_valid s a replica report value is counts.stands reported sent in (
+        (at.slot_limit, at.ballot, good),
+        acceptor_put s a.slot _ _ s.own.idle is at.slot_limit (at.ballot, good) is.own.idle
+            (λ more longer within. further _ _ _ _ more a _ _ _ _ at within (on_greater IsValidReport a.attempt.reported report at.reported reported) good),
+        brings_vote s a.slot a.attempt.ballot value sent.none_greater,
+      )
+
+  waits_valid : (s : Node SequencerState) (a : SlotAttempt) (replica : ℕ) (report : Option (ℕ × Entry)) (attempt : Attempt Entry) (more : ℕ)
+      → Counts n event s a replica report → Waits s a replica report attempt → IsOrderly s → a.slot < more
+      → IsAttempt (number_of s.base.me) s.base.cfg.seqs (length s.base.known) more (record a { attempt = attempt })
+  waits_valid s a replica report _ more counts (is_late late) is within = let at = standing s a is counts.stands in further _ _ _ _ _ a _ _ _ _ at within at.reported at.sending
+  waits_valid s a replica report _ more counts (is_lower greater e) is within = let at = standing s a is counts.stands in further _ _ _ _ _ a _ _ _ _ at within at.reported at.sending
+  waits_valid s a replica report _ more counts (is_waiting early few) is within =
+      let at = standing s a is counts.stands in
+      further _ _ _ _ _ a _ _ _ _ at within
+      (on_greater IsValidReport a.attempt.reported report at.reported (promise_valid s a.slot a.attempt.ballot replica report counts.promise)) at.sending
+
+  changes_valid : (s : Node SequencerState) (own : SequencerState) → Changes n event s own → IsOrderly s
+      → IsOrderly (with_own own s) × (reset_of s ≡ reset_of (with_own own s))
+  changes_valid s _ (waits a replica report attempt counts why) is =
+      let at = standing s a is counts.stands in (
+        acceptor_put s a.slot (acceptor_at s.own a.slot) _ s.own.idle is at.slot_limit (acceptor_valid s.own a.slot is.own) is.own.idle
+            (λ more longer within. waits_valid s a replica report attempt more counts why is within),
+        ap (left_with s.base) (sym (set_back s.own.acceptors a.slot fresh_acceptor at.acceptor)),
+      )
+  changes_valid s _ (hears a replica value stands comes sent) is =
+      let at = standing s a is stands in (
+        record {
+          base = is.base;
+          own = own_with s.own.acceptors _ s.own.idle s.own is.own.acceptors is.own.idle is.own;
+          attempt = further _ _ _ _ _ a _ _ _ _ at at.acceptor at.reported at.sending;
+        },
+        refl,
+      )
+  changes_valid s _ (reports from len comes) is = report_put from len s (comes_valid n event from _ comes valid).1 is
+  changes_valid s _ (wishes command e room) is = (
     record {
-      sound = record {
-        base = base_knowing entry t.state.base valid slot is.sound.base;
-        own =
-            own_over (own_of t).attempt (agreed t).slots entry (with_idle 0 (own_of t))
-            (record { acceptors = is.sound.own.acceptors; primaries = is.sound.own.primaries; backups = is.sound.own.backups; wishes = is.sound.own.wishes; idle = omega arith });
-        attempt =
-            subst
-            (λ (o : Option SlotAttempt). HasAttempt (knowing entry t.state.base) (attempt_over (own_of t).attempt (agreed t).slots entry (with_idle 0 (own_of t))) o)
-            (sym gone) tt;
-      };
-      stored =
-          fold-append fit (reset_of n) t.stable (items.Known entry ∷ [])
-          ∙ ap (λ (m : Node SequencerState). fit m (items.Known entry)) is.stored
-          ∙ fits_known (reset_of t.state) entry slot
-          ∙ ap (left_with (knowing entry t.state.base)) (sym same);
-      stable = all_push IsValidItem t.stable (items.Known entry) is.stable valid;
-      sends = is.sends;
-    }
-  where
-    fits_known : (m : Node SequencerState) (entry : Entry) → has_slot m.base ≡ true → fit m (items.Known entry) ≡ record m { base = knowing entry m.base }
-    fits_known m entry slot = ap (λ (b : Bool). if b then record m { base = knowing entry m.base } else m) slot
+      base = is.base;
+      own =
+          own_wishing _ s.own.attempt s.own
+          (record {
+            each = all_push IsValidCommand s.own.wishes command is.own.wishes.each (subst IsValidEvent e valid);
+            few = omega (arith, ltb-true _ _ room, length-append s.own.wishes (command ∷ []));
+          })
+          is.own;
+      attempt = is.attempt;
+    },
+    refl,
+  )
+  changes_valid s _ (idles e) is =
+      (record { base = is.base; own = own_with s.own.acceptors s.own.attempt _ s.own is.own.acceptors (omega arith) is.own; attempt = is.attempt }, refl)
+
+  pub sequencer_keeps : (P : NodeId → Type 0) → KeepsAfter sequencer_places over (sequencer_keeping P) n event
+  sequencer_keeps P = record {
+    base = λ s is. is.0.base;
+    resets = λ is. ((reset_sound n is.0, is.1), λ a leads. leads);
+    learns = λ s entry why is. learns_valid s entry why is.0;
+    knows = λ s entry base is. (knows_orderly s entry base is.0, is.1);
+    sees = λ s count base is. (record { base = base; own = is.0.own; attempt = is.0.attempt }, is.1);
+    ticks = λ s base is. (record { base = base; own = is.0.own; attempt = is.0.attempt }, is.1);
+    says = λ s to what why is. says_valid s to what why is.0;
+    stores = λ s item own why is. let kept = stores_valid s item own why is.0 in (kept.0, (kept.1, is.1));
+    changes = λ s own why is. ((changes_valid s own why is.0).0, is.1);
+    leads_known = λ a s entry sure leads. ap (λ (m : Node SequencerState). fit m (items.Known entry)) leads ∙ leads_known s entry sure.0 sure.1.0;
+    leads_seen = λ a s count leads. leads;
+    leads_ticked = λ a s leads. leads;
+    leads_stored = λ a s item own why is leads. ap (λ (m : Node SequencerState). fit m item) leads ∙ (stores_valid s item own why is.0).2;
+    leads_changed = λ a s own why leads. leads ∙ (changes_valid s own why.0 why.1.0).1;
+  }

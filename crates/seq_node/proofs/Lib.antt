@@ -1,16 +1,12 @@
-pub mod Lists
 pub mod Places
 pub mod Others
 pub mod Limits
 pub mod Proposals
 pub mod Ballots
 pub mod Walk
-pub mod Validity
+pub mod Orderly
 pub mod Keeps
 pub mod Lives
-pub mod Starts
 pub mod UnderWays
-pub mod Fits
 pub mod Within
 pub mod Messages
-pub mod NewBallots

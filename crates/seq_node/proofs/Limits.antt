@@ -6,9 +6,9 @@ use Rattle.std.proofs.lemmas.Bool.Decides.{nat_tests}
 use Rattle.std.proofs.lemmas.Nat.{mul-le}
 use Rattle.quota_table.specs.Rows.{is_row}
 use Rattle.fix_ante.specs.declared.spots.Spot.{Spot}
-use Rattle.fix_ante.specs.Windows.{Window, rows_of}
+use Rattle.fix_ante.specs.Windows.{Window, round_end, rows_of}
 use Rattle.lag_fix.specs.declared.wanted.Wanted.{Wanted}
-use Rattle.lag_fix.specs.Lags.{round_begin, lagging_of}
+use Rattle.lag_fix.specs.Lags.{lagging_of}
 use Rattle.cut_core.specs.declared.effects.Reason.{Reason}
 use Rattle.cut_core.specs.Agreements.{Agreement, is_last_round}
 use Rattle.cut_core.specs.Reasons.{fault_of}
@@ -72,7 +72,7 @@ spot_within : (base : ℕ) (s : Spot) (ss : List Spot) → list_all is_row (rows
     → (s.shard < 6) × (s.quota ≤ 64) × (s.start ≤ base) × (list_all is_row (rows_of ss) ≡ true) × (list_all (λ (t : Spot). nat_le t.start base) ss ≡ true)
 spot_within base s ss within starts = grind (arith, nat_tests)
 
-wanted_limit : (base round : ℕ) (s : Spot) → base ≤ 393216000000 → round < 1024 → s.quota ≤ 64 → s.start ≤ base → round_begin s (round + 1) ≤ 2 ^ 48
+wanted_limit : (base round : ℕ) (s : Spot) → base ≤ 393216000000 → round < 1024 → s.quota ≤ 64 → s.start ≤ base → round_end s round ≤ 2 ^ 48
 wanted_limit base round s far short most start = omega (arith, mul-le (round + 1) s.quota 1024 64 (omega (arith, short)) most)
 
 valid_lagging : (base round : ℕ) (spots : List Spot) (lengths : List ℕ) → base ≤ 393216000000 → round < 1024
@@ -82,7 +82,7 @@ valid_lagging base round [] lengths far short within starts = tt
 valid_lagging base round (s ∷ ss) lengths far short within starts =
     let here = spot_within base s ss within starts in
     let rest = valid_lagging base round ss lengths far short here.3 here.4 in
-    on_test (AllByRecursion IsWanted) (nat_lt (slice_index lengths s.shard) (round_begin s (round + 1))) (record { shard = s.shard; len = round_begin s (round + 1) } ∷ lagging_of ss round lengths) (lagging_of ss round lengths)
+    on_test (AllByRecursion IsWanted) (nat_lt (slice_index lengths s.shard) (round_end s round)) (record { shard = s.shard; len = round_end s round } ∷ lagging_of ss round lengths) (lagging_of ss round lengths)
     (λ _. ((omega (arith, here.0), wanted_limit base round s far short here.1 here.2), rest)) (λ _. rest)
 
 pub valid_wanted : (b : Base) (lengths : List ℕ) → IsBase b → AllByRecursion IsWanted (lagging_of (agreed_by b).current.spots (agreed_by b).rounds lengths)

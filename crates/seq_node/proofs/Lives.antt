@@ -1,50 +1,94 @@
--- Every life of valid events: its node is a sequencer, its steps are valid, and its stored items give what a restart leaves.
-use Rattle.std.proofs.Common.{◌≡◌, List, [], ◌∷◌, refl, sym, ap, ◌∙◌, arith}
+-- Every life of valid events: its node is in order, its steps are valid, and its stored items give what a restart leaves; and what the
+-- items of any vault give is a sequencer, with no attempt.
+use Rattle.std.proofs.Common.{List, refl, sym, ◌≡◌, ◌<◌, ℕ, [], ◌∷◌, Option, Some, None, subst}
 use Rattle.std.specs.List.{AllByRecursion, fold}
-use Rattle.std.proofs.lemmas.List.Sums.{fold-append}
-use Rattle.msg_wire.specs.Valid.{IsValidConfig, IsNodeOf, IsValidEvent}
-use Rattle.node_rules.specs.Names.{NodeId, Config, Event}
-use Rattle.node_rules.specs.Nodes.{Node}
-use Rattle.node_rules.specs.Turns.{Turn}
-use Rattle.node_rules.proofs.Limits.{base_fresh}
-use Rattle.node_rules.specs.Lives.{Life, lived_on}
-use Rattle.seq_node.specs.States.{SequencerState}
+use Rattle.msg_wire.specs.Valid.{IsValidConfig, IsNodeOf, IsValidEvent, IsBallot, IsValidItem, AreValidItems}
+use Rattle.node_rules.specs.Names.{NodeId, Config, Event, Entry, Item}
+use Rattle.node_rules.specs.Nodes.{Node, knowing, has_slot}
+use Rattle.node_rules.proofs.Kept.{IsKept, IsLife, lives, kept_valid, keeping}
+use Rattle.seq_node.specs.States.{SequencerState, acceptor_at}
 use Rattle.seq_node.specs.Steps.{sequencer_step}
-use Rattle.seq_node.specs.Restart.{fit, fresh_node, reset_of, restart_of}
-use Rattle.seq_node.specs.Sound.{IsOrderly}
+use Rattle.seq_node.specs.Restart.{fresh_node, fit, fit_acceptor, restart_of}
 use Rattle.seq_node.specs.Laws.{sequencer_life, RestartIsTheItems, StepsAreValid}
-use Rattle.seq_node.specs.UnderWay.{IsKept}
-use Rattle.seq_node.proofs.Validity.{only_own, kept_step}
+use Rattle.seq_node.proofs.Orderly.{fresh_sound, acceptor_valid, acceptor_changed}
+use Rattle.seq_node.proofs.Places.{sequencer_places}
+use Rattle.seq_node.proofs.Walk.{sequencer_walk}
+use Rattle.seq_node.proofs.Keeps.{IsOrderlyAs, sequencer_keeping, sequencer_keeps}
+use Rattle.std.specs.Prelude.{IsTrue}
+use Rattle.majority.specs.Ballots.{greater_promise}
+use Rattle.majority.specs.Acceptors.{AcceptorState, prepare_answer_unless, after_prepare_answer, after_prepare, accept_answer_unless, after_accept_answer, after_accept}
+use Rattle.quota_table.specs.Entries.{IsValidEntry}
+use Rattle.msg_wire.specs.Nodes.{is_sequencer}
+use Rattle.node_rules.specs.Names.items
+use Rattle.node_rules.proofs.Lists.{on_test}
+use Rattle.node_rules.proofs.Limits.{base_knowing}
+use Rattle.seq_node.specs.Sound.{IsAcceptor, MayBeAttempt, IsOrderly, IsSequencer}
 
--- what holds of a life so far
-record IsLife (cfg : Config) (me : NodeId) (life : Life SequencerState) : Type 0 where
-  sound : IsOrderly life.node
-  stored : restart_of cfg me life.stored ≡ reset_of life.node
+pub kept_step : (P : NodeId → Type 0) (n : Node SequencerState) (event : Event) → IsOrderlyAs P n → IsValidEvent event
+    → IsKept (sequencer_keeping P) n (sequencer_step n event)
+kept_step P n event is valid = sequencer_walk (keeping sequencer_places (sequencer_keeping P) n event (sequencer_keeps n event valid P) valid is)
 
-pub fresh_sound : (cfg : Config) (me : NodeId) → IsValidConfig cfg → IsNodeOf cfg me → IsOrderly (fresh_node cfg me)
-fresh_sound cfg me valid here = record { base = base_fresh cfg me valid here; own = only_own [] (record { each = tt; few = omega arith }); attempt = tt }
+-- nothing more of its name
+abbrev any : NodeId → Type 0
+any me = Unit {0}
 
-lived : (cfg : Config) (me : NodeId) (life : Life SequencerState) (t : Turn SequencerState) → IsLife cfg me life → IsKept life.node t
-    → IsLife cfg me (lived_on life t)
-lived cfg me life t is kept = record {
-  sound = kept.sound;
-  stored =
-      fold-append fit (fresh_node cfg me) life.stored t.stable
-      ∙ ap (λ (n : Node SequencerState). fold fit n t.stable) is.stored
-      ∙ kept.stored;
-}
-
-lives : (cfg : Config) (me : NodeId) (events : List Event) → IsValidConfig cfg → IsNodeOf cfg me → AllByRecursion IsValidEvent events
-    → IsLife cfg me (sequencer_life cfg me events)
-lives cfg me [] valid here each = record { sound = fresh_sound cfg me valid here; stored = refl }
-lives cfg me (event ∷ events) valid here each =
-    let before = lives cfg me events valid here each.1 in
-    lived cfg me (sequencer_life cfg me events) (sequencer_step (sequencer_life cfg me events).node event) before (kept_step (sequencer_life cfg me events).node event before.sound each.0)
+life : (cfg : Config) (me : NodeId) (events : List Event) → IsValidConfig cfg → IsNodeOf cfg me → AllByRecursion IsValidEvent events
+    → IsLife (sequencer_keeping any) (fresh_node cfg me) (sequencer_life cfg me events)
+life cfg me events valid here each = lives (sequencer_keeping any) sequencer_step (fresh_node cfg me) events (kept_step any) (fresh_sound cfg me valid here, tt) refl each
 
 pub restart_is_the_items : RestartIsTheItems
-restart_is_the_items cfg me events valid here each = sym (lives cfg me events valid here each).stored
+restart_is_the_items cfg me events valid here each = sym (life cfg me events valid here each).leads
 
 pub steps_are_valid : StepsAreValid
 steps_are_valid cfg me events event valid here each next =
-    let kept = kept_step (sequencer_life cfg me events).node event (lives cfg me events valid here each).sound next in
-    record { stable = kept.stable; sends = kept.sends }
+    kept_valid (sequencer_keeping any) _ _ (kept_step any (sequencer_life cfg me events).node event (life cfg me events valid here each).is next)
+
+-- ---- the items of a vault
+
+-- in order, and without an attempt
+record IsAtRest (n : Node SequencerState) : Type 0 where
+  orderly : IsOrderly n
+  none : n.own.attempt ≡ None
+  kind : IsTrue (is_sequencer n.base.me)
+
+valid_after_prepare : (greater : Option ℕ) (ballot : ℕ) (own : AcceptorState Entry) → IsAcceptor own
+    → IsAcceptor (after_prepare_answer (prepare_answer_unless greater own) ballot own)
+valid_after_prepare (Some p) ballot own valid = valid
+valid_after_prepare None ballot own valid = valid
+
+valid_after_accept : (greater : Option ℕ) (ballot : ℕ) (entry : Entry) (own : AcceptorState Entry) → IsBallot ballot → IsValidEntry entry → IsAcceptor own
+    → IsAcceptor (after_accept_answer (accept_answer_unless greater) ballot entry own)
+valid_after_accept (Some p) ballot entry own small good valid = valid
+valid_after_accept None ballot entry own small good valid = (small, good)
+
+rest_acceptor : (n : Node SequencerState) (slot : ℕ) (change : AcceptorState Entry → AcceptorState Entry) → slot < 1000000
+    → IsAcceptor (change (acceptor_at n.own slot)) → IsAtRest n
+    → IsAtRest (fit_acceptor slot change n)
+rest_acceptor n slot change low valid is = record { orderly = acceptor_changed n slot (change (acceptor_at n.own slot)) is.orderly low valid; none = is.none; kind = is.kind }
+
+rest : (n : Node SequencerState) (item : Item) → IsValidItem item → IsAtRest n → IsAtRest (fit n item)
+rest n (items.Known entry) valid is =
+    on_test IsAtRest (has_slot n.base) (record n { base = knowing entry n.base }) n
+    (λ slot. record {
+      orderly = record { base = base_knowing entry n.base valid slot is.orderly.base; own = is.orderly.own; attempt = subst (MayBeAttempt _ _ _ _) (sym is.none) tt };
+      none = is.none;
+      kind = is.kind;
+    })
+    (λ _. is)
+rest n (items.Promised slot ballot) valid is =
+    rest_acceptor n slot (after_prepare ballot) valid.0
+    (valid_after_prepare (greater_promise (acceptor_at n.own slot).promised ballot) ballot (acceptor_at n.own slot) (acceptor_valid n.own slot is.orderly.own)) is
+rest n (items.Accepted slot ballot entry) valid is =
+    rest_acceptor n slot (after_accept ballot entry) valid.0
+    (valid_after_accept (greater_promise (acceptor_at n.own slot).promised ballot) ballot entry (acceptor_at n.own slot) valid.1 valid.2 (acceptor_valid n.own slot is.orderly.own)) is
+rest n _ valid is = is
+
+rests : (n : Node SequencerState) (stored : List Item) → AreValidItems stored → IsAtRest n → IsAtRest (fold fit n stored)
+rests n [] valid is = is
+rests n (item ∷ stored) valid is = rests (fit n item) stored valid.1 (rest n item valid.0 is)
+
+pub restarted_is : (cfg : Config) (me : NodeId) (stored : List Item) → IsValidConfig cfg → IsNodeOf cfg me → IsTrue (is_sequencer me) → AreValidItems stored
+    → IsSequencer (restart_of cfg me stored)
+restarted_is cfg me stored valid here kind good =
+    let is = rests (fresh_node cfg me) stored good (record { orderly = fresh_sound cfg me valid here; none = refl; kind = kind }) in
+    record { orderly = is.orderly; kind = is.kind }

@@ -10,7 +10,7 @@ use Rattle.node_rules.specs.Nodes.{Node}
 use Rattle.node_rules.proofs.Telling.{telling}
 use Rattle.seq_node.specs.States.{SequencerState}
 use Rattle.seq_node.specs.Messages.{IsTrueOf, MessagesAreTrue}
-use Rattle.seq_node.proofs.Places.{Says, tells, announces, sequencer_places, each_place}
+use Rattle.seq_node.proofs.Places.{Says, tells, announces, over, sequencer_places}
 use Rattle.seq_node.proofs.Walk.{sequencer_walk}
 
 said : (n : Node SequencerState) (event : Event) (s : Node SequencerState) (to : NodeId) (what : What) → Says n event s to what → IsTrueOf s.base.known what
@@ -25,9 +25,8 @@ grows known more _ before = tt
 
 pub messages_are_true : MessagesAreTrue
 messages_are_true n event =
-    sequencer_walk _ n event
-    (each_place _ n event
-    (telling sequencer_places (λ s m. IsTrueOf s.base.known m.what) n event
+    sequencer_walk
+    (telling sequencer_places over (λ s m. IsTrueOf s.base.known m.what) n event
     (record {
       asks = λ s to why. tt;
       says = said n event;
@@ -36,4 +35,4 @@ messages_are_true n event =
       ticks = λ s m holds. holds;
       stores = λ s item own m why holds. holds;
       changes = λ s own m why holds. holds;
-    })))
+    }))

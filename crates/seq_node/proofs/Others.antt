@@ -6,10 +6,9 @@ use Rattle.msg_wire.specs.Nodes.{sequencers_of, replicas_of, all_replicas_of, cl
 use Rattle.msg_wire.specs.Valid.{IsValidConfig, IsNodeOf}
 use Rattle.node_rules.specs.Names.{NodeId, Config}
 use Rattle.node_rules.specs.Names.nodes
-use Rattle.node_rules.proofs.Lists.{all_append, all_weaken}
+use Rattle.node_rules.proofs.Lists.{all_append, all_weaken, all_filter}
 use Rattle.node_rules.proofs.Limits.{node_valid}
 use Rattle.node_rules.proofs.Within.{range_within, sequencers_within, consumers_within}
-use Rattle.seq_node.proofs.Lists.{all_filter}
 
 pairs_within : (c : Config) (from count : ℕ) → from + count ≤ c.shards → AllByRecursion (IsNodeOf c) (flat_map replicas_of (range_with_len from count))
 pairs_within c from zero few = tt

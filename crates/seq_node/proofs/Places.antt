@@ -1,11 +1,9 @@
 -- The places of a sequencer's table at which it learns, sends, stores or changes, and what is known there.
-use Rattle.std.proofs.Common.{refl}
 use Rattle.std.specs.Prelude.{◌≡◌, ℕ, ◌+◌, ◌^◌, ◌==◌, Bool, true, false, nat_lt, min, is_some, List, [], ◌∷◌, ◌++◌, length, slice_get, Option, Some, None, if◌then◌else◌}
 use Rattle.lag_fix.specs.declared.wanted.Wanted.{Wanted}
 use Rattle.majority.specs.Ballots.{greater_promise, is_majority}
 use Rattle.majority.specs.Acceptors.{with_promise, with_vote}
 use Rattle.majority.specs.Proposers.{Attempt, value_to_send, with_heard, with_sending, with_acceptance}
-use Rattle.cut_core.specs.Agreements.{Agreement}
 use Rattle.msg_wire.specs.Nodes.{number_of, sequencers_of, nodes_of, without_node}
 use Rattle.node_rules.specs.Names.{NodeId, Entry, Command, Item, What, Event}
 use Rattle.node_rules.specs.Names.nodes
@@ -14,12 +12,11 @@ use Rattle.node_rules.specs.Names.items
 use Rattle.node_rules.specs.Names.whats
 use Rattle.node_rules.specs.Names.events
 use Rattle.node_rules.specs.Nodes.{Node, agreed_by, has_slot}
-use Rattle.node_rules.specs.Turns.{Turn, started, own_of, count_known, agreed, put_own, store, send}
-use Rattle.node_rules.specs.Rules.{learned, learn, with_seen, with_tick}
-use Rattle.node_rules.proofs.Places.{Comes, IsTold, Asks, HasLearned, Places, Sites}
+use Rattle.node_rules.specs.Turns.{Turn, started}
+use Rattle.node_rules.proofs.Places.{Comes, IsTold, Places, SitesAfter}
 use Rattle.seq_node.specs.States.{SlotAttempt, SequencerState, acceptor_at, with_acceptor, with_report, with_attempt, with_idle}
 use Rattle.seq_node.specs.Values.{lagging_rows, has_uncovered, wished_value, value_for}
-use Rattle.seq_node.specs.Learning.{attempt_over, on_learned}
+use Rattle.seq_node.specs.Learning.{attempt_over}
 use Rattle.seq_node.specs.Attempts.{goes_on, new_ballot}
 use Rattle.seq_node.specs.Restart.{reset_of}
 
@@ -166,47 +163,13 @@ pub data Changes (n : Node SequencerState) (event : Event) (s : Node SequencerSt
       → Changes n event s (record (s.own) { wishes = s.own.wishes ++ command ∷ [] })
   idles : event ≡ events.Tick → Changes n event s (with_idle (min (s.own.idle + 1) 255) s.own)
 
--- the own part after an entry: an attempt for its slot is over
-abbrev pub ended : Agreement → Entry → SequencerState → SequencerState
-ended before entry s = attempt_over s.attempt before.slots entry (with_idle 0 s)
-
--- one of these, or an entry was learned
-pub data ChangesOrEnds (n : Node SequencerState) (event : Event) (s : Node SequencerState) : SequencerState → Type 0 where
-  changes_own : (own : SequencerState) → Changes n event s own → ChangesOrEnds n event s own
-  ends : (before : Agreement) (entry : Entry) → HasLearned (Learns n event) s.base before entry → ChangesOrEnds n event s (ended before entry s.own)
+-- the own part after a learned entry: an attempt for its slot is over at once, as what holds of attempts does not hold in between
+abbrev pub over : Node SequencerState → Entry → SequencerState
+over s entry = attempt_over s.own.attempt (agreed_by s.base).slots entry (with_idle 0 s.own)
 
 abbrev pub sequencer_places : Places SequencerState
 sequencer_places =
-    record { Learns = Learns; Says = Says; Shows = λ n event s mark. ⊥; Stores = Stores; Changes = ChangesOrEnds; reset = reset_of; shown = λ n. [] }
+    record { Learns = Learns; Says = Says; Shows = λ n event s mark. ⊥; Stores = Stores; Changes = Changes; reset = reset_of; shown = λ n. [] }
 
--- ---- what is kept at each place
-
--- an attempt for the slot of a learned entry is over at once: what holds of attempts need not hold in between
-pub record SequencerSites (W : Turn SequencerState → Type 0) (n : Node SequencerState) (event : Event) : Type 0 where
-  pub starts : W (started n)
-  pub restarts : event ≡ events.Restart → W (started (reset_of n))
-  pub learns : (t : Turn SequencerState) (entry : Entry) → Learns n event t.state entry → W t → W (learn on_learned entry t)
-  pub sees : (t : Turn SequencerState) (from : NodeId) (slot count : ℕ) (entry : Entry) → Comes n event from (whats.Decided slot count entry) → W t
-      → W (with_seen count t)
-  pub ticks : (t : Turn SequencerState) → event ≡ events.Tick → W t → W (with_tick t)
-  pub asks : (t : Turn SequencerState) (to : NodeId) → Asks n event t.state to → W t → W (send to (whats.Learn (count_known t)) t)
-  pub says : (t : Turn SequencerState) (to : NodeId) (what : What) → Says n event t.state to what → W t → W (send to what t)
-  pub stores : (t : Turn SequencerState) (item : Item) (own : SequencerState) → Stores n event t.state item own → W t → W (put_own own (store item t))
-  pub changes : (t : Turn SequencerState) (own : SequencerState) → Changes n event t.state own → W t → W (put_own own t)
-
--- what holds in between, too, is kept where each of the places keeps it
-pub each_place : (W : Turn SequencerState → Type 0) (n : Node SequencerState) (event : Event) → Sites sequencer_places W n event → SequencerSites W n event
-each_place W n event s = record {
-  starts = s.starts;
-  restarts = s.restarts;
-  learns = λ t entry why w.
-      s.changes (learned entry t) (ended (agreed t) entry (own_of t))
-      (ends (agreed t) entry (record { old = t.state; learns = why; base = refl; agrees = refl }))
-      (s.learns t entry why w);
-  sees = s.sees;
-  ticks = s.ticks;
-  asks = s.asks;
-  says = s.says;
-  stores = s.stores;
-  changes = λ t own why w. s.changes t own (changes_own own why) w;
-}
+abbrev pub SequencerSites : (Turn SequencerState → Type 0) → Node SequencerState → Event → Type 0
+SequencerSites W n event = SitesAfter sequencer_places over W n event

@@ -4,7 +4,7 @@ use Rattle.std.specs.Prelude.{if◌then◌else◌, slice_get}
 use Rattle.std.specs.List.{AllByRecursion}
 use Rattle.std.specs.Option.{option_or}
 use Rattle.fix_ante.specs.Windows.{rows_of}
-use Rattle.record_codec.specs.Entries.{IsValidEntry}
+use Rattle.quota_table.specs.Entries.{IsValidEntry}
 use Rattle.msg_wire.specs.Valid.{IsValidCommand}
 use Rattle.node_rules.specs.Names.{Entry, Command}
 use Rattle.node_rules.specs.Names.entries

@@ -5,7 +5,8 @@ use Rattle.std.specs.List.{AllByRecursion, slice_get}
 use Rattle.std.specs.Option.{option_map}
 use Rattle.fix_ante.specs.declared.spots.Spot.{Spot}
 use Rattle.lag_fix.specs.declared.wanted.Wanted.{Wanted}
-use Rattle.lag_fix.specs.Lags.{lagging_of, round_begin}
+use Rattle.fix_ante.specs.Windows.{round_end}
+use Rattle.lag_fix.specs.Lags.{lagging_of}
 use Rattle.cut_core.specs.Agreements.{Agreement}
 use Rattle.majority.specs.Acceptors.{AcceptorState, fresh_acceptor}
 use Rattle.majority.specs.Proposers.{Attempt, value_of_report, with_heard}
@@ -15,20 +16,19 @@ use Rattle.node_rules.specs.Names.nodes
 use Rattle.node_rules.specs.Names.sides
 use Rattle.node_rules.specs.Names.commands
 use Rattle.node_rules.specs.Nodes.{Node, agreed_by}
-use Rattle.node_rules.proofs.Lists.{on_test, all_push, all_at}
+use Rattle.node_rules.proofs.Lists.{on_test, all_push, all_at, all_or}
 use Rattle.node_rules.proofs.Places.{Comes}
-use Rattle.node_rules.proofs.Within.{HasNodes, MayHaveNodes, ReportHasNodes, CommandHasNodes, SaysWithin, TakesWithin, StaysWithin, IsWithin, ComesWithin, comes_within, KeepsWithin, staying}
+use Rattle.node_rules.proofs.Within.{HasNodes, MayHaveNodes, ReportHasNodes, CommandHasNodes, SaysWithin, TakesWithin, StaysWithin, IsWithin, ComesWithin, comes_within, KeepsWithin, staying_after}
 use Rattle.node_rules.proofs.WithinAgreed.{SpotsHaveNodes, rows_of_spots, AgreesWithin, agreed_within}
-use Rattle.seq_node.specs.States.{SlotAttempt, SequencerState, acceptor_at, reaching, with_report, with_attempt}
+use Rattle.seq_node.specs.States.{SlotAttempt, SequencerState, acceptor_at, reaching, with_report, with_attempt, with_idle}
 use Rattle.seq_node.specs.Values.{entry_of, wished_value, renewal_is_due, renewal, cut_is_due, cut, is_touched, value_for}
 use Rattle.seq_node.specs.Learning.{attempt_over}
 use Rattle.seq_node.specs.Steps.{sequencer_step}
-use Rattle.seq_node.proofs.Lists.{all_or}
 use Rattle.seq_node.proofs.Ballots.{on_greater}
 use Rattle.seq_node.proofs.Proposals.{on_first}
-use Rattle.seq_node.proofs.Keeps.{all_reaching}
+use Rattle.seq_node.proofs.Orderly.{all_reaching}
 use Rattle.seq_node.proofs.Others.{other_sequencers_within, other_nodes_within}
-use Rattle.seq_node.proofs.Places.{AsksFor, by_learn, by_prepare, by_accept, Promising, promise_comes, promise_alone, Learns, told, chosen, Counts, Waits, is_late, is_lower, is_waiting, Begins, Says, tells, announces, promises, accepts, prepares, proposes, fills, Stores, promised, accepted, begins_at_once, begins, sends, Changes, waits, hears, reports, wishes, idles, ChangesOrEnds, changes_own, ends, sequencer_places, each_place, others_of, all_others_of}
+use Rattle.seq_node.proofs.Places.{AsksFor, by_learn, by_prepare, by_accept, Promising, promise_comes, promise_alone, Learns, told, chosen, Counts, Waits, is_late, is_lower, is_waiting, Begins, Says, tells, announces, promises, accepts, prepares, proposes, fills, Stores, promised, accepted, begins_at_once, begins, sends, Changes, waits, hears, reports, wishes, idles, over, sequencer_places, others_of, all_others_of}
 use Rattle.seq_node.proofs.Walk.{sequencer_walk}
 
 -- ---- what a sequencer has
@@ -113,7 +113,7 @@ lagging_within : (c : Config) (spots : List Spot) (round : ℕ) (lengths : List 
     → AllByRecursion (λ (w : Wanted). w.shard < c.shards) (lagging_of spots round lengths)
 lagging_within c [] round lengths all = tt
 lagging_within c (s ∷ spots) round lengths all =
-    on_test (AllByRecursion (λ (w : Wanted). w.shard < c.shards)) (nat_lt (slice_index lengths s.shard) (round_begin s (round + 1))) _ _
+    on_test (AllByRecursion (λ (w : Wanted). w.shard < c.shards)) (nat_lt (slice_index lengths s.shard) (round_end s round)) _ _
     (λ _. (all.0, lagging_within c spots round lengths all.1)) (λ _. lagging_within c spots round lengths all.1)
 
 -- ---- the places
@@ -198,21 +198,18 @@ module _ (c : Config) (n : Node SequencerState) (event : Event) (valid : IsValid
   changes_within s _ (wishes command e room) w = (w.own.0, all_push (CommandHasNodes c) s.own.wishes command w.own.1 (subst (TakesWithin c) e takes), w.own.2)
   changes_within s _ (idles e) w = w.own
 
-  ends_within : (s : Node SequencerState) (own : SequencerState) → ChangesOrEnds n event s own → IsIn c s → HasEntries c s.base.me own
-  ends_within s own (changes_own _ why) w = changes_within s own why w
-  ends_within s _ (ends before entry why) w = over_has c s.base.me s.own.attempt before.slots entry _ w.own
-
   within_places : KeepsWithin sequencer_places c (HasEntries c) n event
   within_places = record {
     resets = λ w. record { cfg = w.cfg; me = w.me; known = w.known; own = (w.own.0, tt, tt) };
     learns = learns_within;
     says = says_within;
     stores = stores_within;
-    changes = ends_within;
+    changes = changes_within;
   }
 
 pub sequencer_within : (c : Config) (n : Node SequencerState) (event : Event) → IsValidConfig c → TakesWithin c event → IsIn c n
     → StaysWithin c SequencerState (HasEntries c) (sequencer_step n event)
 sequencer_within c n event valid takes start =
-    sequencer_walk _ n event
-    (each_place _ n event (staying sequencer_places c (HasEntries c) n event (within_places c n event valid takes start) valid start takes))
+    sequencer_walk
+    (staying_after sequencer_places c (HasEntries c) n event (within_places c n event valid takes start) over
+    (λ s entry w. over_has c s.base.me s.own.attempt (agreed_by s.base).slots entry (with_idle 0 s.own) w.own) valid start takes)

@@ -9,4 +9,4 @@ pub mod Sound
 pub mod UnderWay
 pub mod Laws
 pub mod Messages
-pub mod Rows
+pub mod Worked

@@ -15,4 +15,5 @@ IsTrueOf known _ = Unit {0}
 -- every message that the step of any sequencer with any event sends is true of the entries that it knows after it
 abbrev pub MessagesAreTrue : Type 0
 MessagesAreTrue =
-    (n : Node SequencerState) (event : Event) → AllByRecursion (λ (m : Message). IsTrueOf (sequencer_step n event).state.base.known m.what) (sequencer_step n event).sends
+    (n : Node SequencerState) (event : Event)
+    → AllByRecursion (λ (m : Message). IsTrueOf (sequencer_step n event).state.base.known m.what) (sequencer_step n event).sends

@@ -2,7 +2,7 @@
 use Rattle.std.specs.Prelude.{◌≡◌, ℕ, ◌<◌, ◌≤◌, List, length, Option, Some, None, IsTrue}
 use Rattle.std.specs.List.{AllByRecursion}
 use Rattle.majority.specs.Acceptors.{AcceptorState}
-use Rattle.record_codec.specs.Entries.{IsValidEntry}
+use Rattle.quota_table.specs.Entries.{IsValidEntry}
 use Rattle.msg_wire.specs.Nodes.{number_of, is_sequencer}
 use Rattle.msg_wire.specs.Valid.{IsBallot, IsPlace, IsValidReport, IsValidCommand}
 use Rattle.node_rules.specs.Names.{Entry, Command}

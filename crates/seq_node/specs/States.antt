@@ -47,13 +47,13 @@ with_acceptor slot acceptor s = record s { acceptors = slice_set (reaching (slot
 -- ---- reports
 
 -- the greater of a shard's length and what stands there
-abbrev pub greatest_at : ℕ → ℕ → List ℕ → List ℕ
-greatest_at shard len lengths = slice_set lengths shard (max len (slice_index lengths shard))
+abbrev pub with_greatest : ℕ → ℕ → List ℕ → List ℕ
+with_greatest shard len lengths = slice_set lengths shard (max len (slice_index lengths shard))
 
 -- a replica's report; the greatest is kept
 abbrev pub with_report : NodeId → ℕ → SequencerState → SequencerState
-with_report (nodes.Shard shard sides.Primary) len s = record s { primaries = greatest_at shard len s.primaries }
-with_report (nodes.Shard shard sides.Backup) len s = record s { backups = greatest_at shard len s.backups }
+with_report (nodes.Shard shard sides.Primary) len s = record s { primaries = with_greatest shard len s.primaries }
+with_report (nodes.Shard shard sides.Backup) len s = record s { backups = with_greatest shard len s.backups }
 with_report (nodes.Seq number) len s = s
 with_report (nodes.Client number) len s = s
 with_report (nodes.Consumer number) len s = s

@@ -24,15 +24,15 @@ hear from (whats.Promise slot ballot report) t = hear_promise (number_of from) s
 hear from (whats.Accepted slot ballot) t = hear_acceptance (number_of from) slot ballot t
 hear from _ t = t
 
--- the event's own rule
-abbrev pub react : Event → Turn SequencerState → Turn SequencerState
-react (events.Deliver message) t = heed hear message t
-react (events.Command command) t = take_command command t
-react events.Tick t = on_tick t
-react events.Restart t = started (reset_of t.state)
-react (events.Submit by body) t = t
+-- what an event does by itself; a restart is no such event
+abbrev pub handle : Event → Turn SequencerState → Turn SequencerState
+handle (events.Deliver message) t = heed hear message t
+handle (events.Command command) t = take_command command t
+handle events.Tick t = on_tick t
+handle events.Restart t = t
+handle (events.Submit by body) t = t
 
--- the end of a step begins, but for a restart, and for a command and a tick, which have begun by their own rules
+-- the end of a step begins, but for a command and a tick, which have begun by their own rules
 abbrev pub ends_with_beginning : Event → Bool
 ends_with_beginning (events.Deliver message) = true
 ends_with_beginning (events.Submit by body) = true
@@ -44,5 +44,7 @@ ends_with_beginning events.Restart = false
 abbrev pub finish : Event → Turn SequencerState → Turn SequencerState
 finish event t = if (number_of (me_of t) == 0) && ends_with_beginning event then begin_if_free t else t
 
+-- the step of each event; each but a restart ends with a beginning where none was made
 abbrev pub sequencer_step : Node SequencerState → Event → Turn SequencerState
-sequencer_step n event = finish event (react event (started n))
+sequencer_step n events.Restart = started (reset_of n)
+sequencer_step n event = finish event (handle event (started n))

@@ -1,7 +1,7 @@
 //! A sequencer's attempt: promises and acceptances that come to it.
 
 ghost use Rattle.std.specs.Prelude.{◌≡◌, ◌<◌, None, OnOk, IfSome, IsTrue, if◌then◌else◌};
-ghost use Rattle.record_codec.specs.Entries.{IsValidEntry};
+ghost use Rattle.quota_table.specs.Entries.{IsValidEntry};
 ghost use Rattle.node_rules.specs.Nodes.{has_slot};
 ghost use Rattle.node_rules.specs.Turns.{turn_of};
 ghost use Rattle.seq_node.specs.States.{SlotAttempt as AttemptOf, attempt_for};

@@ -2,7 +2,7 @@
 
 ghost use Rattle.std.specs.Prelude.{◌≡◌, ◌<◌, Some, is_some, IfOk, OnOk, IsTrue};
 ghost use Rattle.std.specs.Option.{option_map_or};
-ghost use Rattle.record_codec.specs.Entries.{IsValidEntry};
+ghost use Rattle.quota_table.specs.Entries.{IsValidEntry};
 ghost use Rattle.msg_wire.specs.Nodes.{number_of};
 ghost use Rattle.node_rules.specs.Nodes.{has_slot, with_own};
 ghost use Rattle.node_rules.specs.Turns.{turn_of, started};
@@ -14,8 +14,7 @@ ghost use Rattle.seq_node.specs.UnderWay.{IsUnderWay};
 use crate::attempts::{hear_acceptance, hear_promise, send_value};
 use crate::state::{Sequencer, SlotAttempt};
 use crate::values::{value_for, wished_value};
-use msg_wire::{Item, Step, What};
-use node_rules::number_of;
+use msg_wire::{Item, Step, What, number_of};
 use quota_table::{Entry, OutOfMemory};
 
 /// Begins where no attempt stands.
@@ -31,6 +30,7 @@ pub fn begin_if_free(seq: &mut Sequencer, out: &mut Step) -> Result<(), OutOfMem
 }
 
 /// Begins at the next slot, where there is a slot and a value.
+#[inline(always)]
 pub fn begin(seq: &mut Sequencer, out: &mut Step) -> Result<(), OutOfMemory>
     requires { IsUnderWay (turn_of seq.old out.old) }
     ensures { OnOk result (turn_of seq.new out.new ≡ begin (turn_of seq.old out.old)) }

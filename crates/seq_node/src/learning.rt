@@ -1,7 +1,7 @@
 //! What a sequencer does at a learned entry, and as it decides one.
 
 ghost use Rattle.std.specs.Prelude.{◌≡◌, OnOk, IsTrue};
-ghost use Rattle.record_codec.specs.Entries.{IsValidEntry};
+ghost use Rattle.quota_table.specs.Entries.{IsValidEntry};
 ghost use Rattle.msg_wire.specs.Entries.{same_entry, is_entry};
 ghost use Rattle.node_rules.specs.Nodes.{has_slot, with_own};
 ghost use Rattle.node_rules.specs.Turns.{turn_of};

@@ -1,8 +1,7 @@
 //! A sequencer at its start, after a restart, and as the items of its vault give it.
 
 ghost use Rattle.std.specs.Prelude.{◌≡◌, IfOk, OnOk};
-ghost use Rattle.std.specs.List.{fold};
-ghost use Rattle.msg_wire.specs.Valid.{IsValidConfig, IsNodeOf, IsValidItem, AreValidItems};
+ghost use Rattle.msg_wire.specs.Valid.{IsValidConfig, IsNodeOf, IsValidItem};
 ghost use Rattle.seq_node.specs.Restart.{fresh_node, fit, reset_of};
 
 use crate::acceptors::Acceptors;
@@ -44,19 +43,8 @@ pub fn reset(seq: &mut Sequencer)
     seq.own.idle = 0;
 }
 
-/// Takes the items of a vault in order.
-pub fn fit_all(seq: &mut Sequencer, items: &[Item]) -> Result<(), OutOfMemory>
-    requires { AreValidItems items.now }
-    ensures { OnOk result (seq.new ≡ fold fit seq.old items.now) }
-{
-    for item in items {
-        fit(seq, item)?;
-    }
-    Ok(())
-}
-
 /// Takes one more item of a vault. A ballot below a promise, or an item of another kind, is passed over.
-fn fit(seq: &mut Sequencer, item: &Item) -> Result<(), OutOfMemory>
+pub fn fit(seq: &mut Sequencer, item: &Item) -> Result<(), OutOfMemory>
     requires { IsValidItem item.now }
     ensures { OnOk result (seq.new ≡ fit seq.old item.now) }
 {

@@ -4,7 +4,7 @@ ghost use Rattle.std.specs.Prelude.{◌≡◌, ◌<◌, OnOk};
 ghost use Rattle.spec_base.specs.Spelling.{IsValidNode};
 ghost use Rattle.node_rules.specs.Names.{Step as StepOf};
 ghost use Rattle.node_rules.specs.Turns.{turn_of};
-ghost use Rattle.seq_node.specs.States.{greatest_at};
+ghost use Rattle.seq_node.specs.States.{with_greatest};
 ghost use Rattle.seq_node.specs.Rules.{tell, hear_learn, hear_prepare, hear_accept, hear_report};
 
 use crate::state::Sequencer;
@@ -114,7 +114,7 @@ pub fn hear_report(seq: &mut Sequencer, from: NodeId, len: u64)
 /// Keeps the greater of a shard's length and what stands there.
 fn keep_greatest(lengths: &mut [u64; 6], shard: u8, len: u64)
     requires { shard < 6 }
-    ensures { lengths.new ≡ greatest_at shard len lengths.old }
+    ensures { lengths.new ≡ with_greatest shard len lengths.old }
 {
     let shard = usize::from(shard);
     lengths[shard] = lengths[shard].max(len);

@@ -1,32 +1,26 @@
 //! A sequencer's step: each event with its rules, and the beginning that ends the step of sequencer 0.
 
-ghost use Rattle.std.specs.Prelude.{◌≡◌, ◌<◌, ◌≤◌, true, IfOk, OnOk, IsTrue};
-ghost use Rattle.record_codec.specs.Entries.{IsValidEntry};
+ghost use Rattle.std.specs.Prelude.{◌≡◌, true, IfOk, OnOk, IsTrue};
 ghost use Rattle.msg_wire.specs.Nodes.{number_of};
 ghost use Rattle.msg_wire.specs.Heeded.{is_heeded};
 ghost use Rattle.msg_wire.specs.Valid.{IsValidMessage, IsValidEvent};
 ghost use Rattle.node_rules.specs.Names.events;
 ghost use Rattle.node_rules.specs.Turns.{turn_of, empty_step};
-ghost use Rattle.node_rules.specs.Rules.{heed, learn_next, decided};
-ghost use Rattle.seq_node.specs.Learning.{on_learned};
 ghost use Rattle.seq_node.specs.Steps.{hear, ends_with_beginning, finish, sequencer_step};
 ghost use Rattle.seq_node.specs.Sound.{IsSequencer};
 ghost use Rattle.seq_node.specs.UnderWay.{IsUnderWay};
 
 use crate::attempts::{hear_acceptance, hear_promise};
 use crate::beginning::begin_if_free;
-use crate::learning::learn;
 use crate::restart::reset;
 use crate::rules::{hear_accept, hear_learn, hear_prepare, hear_report};
 use crate::state::Sequencer;
 use crate::ticks::{on_tick, take_command};
-use msg_wire::{Event, Message, Step, What};
-use node_rules::number_of;
+use msg_wire::{Event, Message, Step, What, number_of};
 use quota_table::{Entry, OutOfMemory};
-use spec_base::NodeId;
 
 /// The step of an event, written into a step that gives nothing yet.
-pub fn take(seq: &mut Sequencer, event: &Event, out: &mut Step) -> Result<(), OutOfMemory>
+pub fn react(seq: &mut Sequencer, event: &Event, out: &mut Step) -> Result<(), OutOfMemory>
     requires sound { IsSequencer seq.old }
     requires valid { IsValidEvent event.now }
     requires empty { out.old ≡ empty_step }
@@ -51,7 +45,7 @@ pub fn deliver(seq: &mut Sequencer, message: &Message, out: &mut Step) -> Result
     requires empty { out.old ≡ empty_step }
     ensures { OnOk result (turn_of seq.new out.new ≡ sequencer_step seq.old (events.Deliver message.now)) }
 {
-    heed(seq, message, out)?;
+    seq.heed(message, out)?;
     finish(seq, out)
 }
 
@@ -70,21 +64,8 @@ fn finish(seq: &mut Sequencer, out: &mut Step) -> Result<(), OutOfMemory>
     }
 }
 
-/// A message that comes. One that is not heeded does nothing by itself.
-fn heed(seq: &mut Sequencer, message: &Message, out: &mut Step) -> Result<(), OutOfMemory>
-    requires under_way { IsUnderWay (turn_of seq.old out.old) }
-    requires valid { IsValidMessage message.now }
-    ensures { OnOk result (turn_of seq.new out.new ≡ heed hear message.now (turn_of seq.old out.old)) }
-{
-    if seq.heeds(message) {
-        hear(seq, message, out)
-    } else {
-        Ok(())
-    }
-}
-
 /// A message that is heeded.
-fn hear(seq: &mut Sequencer, message: &Message, out: &mut Step) -> Result<(), OutOfMemory>
+pub fn hear(seq: &mut Sequencer, message: &Message, out: &mut Step) -> Result<(), OutOfMemory>
     requires under_way { IsUnderWay (turn_of seq.old out.old) }
     requires valid { IsValidMessage message.now }
     requires heeded { IsTrue (is_heeded seq.old.base.cfg seq.old.base.me message.now) }
@@ -92,7 +73,7 @@ fn hear(seq: &mut Sequencer, message: &Message, out: &mut Step) -> Result<(), Ou
 {
     let from = message.from;
     match &message.what {
-        What::Decided { slot, count, entry } => hear_decided(seq, from, *slot, *count, entry, out),
+        What::Decided { slot, count, entry } => seq.hear_decided(from, *slot, *count, entry, out),
         What::Learn { slot } => hear_learn(seq, from, *slot, out),
         What::Report { len } => {
             hear_report(seq, from, *len);
@@ -126,42 +107,5 @@ fn copy_of(report: &Option<(u32, Entry)>) -> Result<Option<(u32, Entry)>, OutOfM
     match report {
         Some((ballot, entry)) => Ok(Some((*ballot, entry.clone()?))),
         None => Ok(None),
-    }
-}
-
-/// Decided: a sequencer tells the entry of a slot, and how many it knows.
-fn hear_decided(
-    seq: &mut Sequencer,
-    from: NodeId,
-    slot: u32,
-    count: u32,
-    entry: &Entry,
-    out: &mut Step,
-) -> Result<(), OutOfMemory>
-    requires slot { slot < 1000000 }
-    requires count { count ≤ 1000000 }
-    requires entry { IsValidEntry entry.now }
-    ensures { OnOk result (turn_of seq.new out.new ≡ decided on_learned from slot count entry.now (turn_of seq.old out.old)) }
-{
-    seq.base.see(count);
-    learn_next(seq, slot, entry, out)?;
-    seq.ask_on(from, out)
-}
-
-/// Learns the entry where its slot is the next.
-fn learn_next(
-    seq: &mut Sequencer,
-    slot: u32,
-    entry: &Entry,
-    out: &mut Step,
-) -> Result<(), OutOfMemory>
-    requires slot { slot < 1000000 }
-    requires entry { IsValidEntry entry.now }
-    ensures { OnOk result (turn_of seq.new out.new ≡ learn_next on_learned slot entry.now (turn_of seq.old out.old)) }
-{
-    if slot == seq.base.count() {
-        learn(seq, entry, out)
-    } else {
-        Ok(())
     }
 }

@@ -14,8 +14,7 @@ use crate::beginning::{begin, begin_if_free};
 use crate::state::Sequencer;
 use crate::values::{has_uncovered, lengths};
 use lag_fix::{Wanted, lagging};
-use msg_wire::{Command, Step, What};
-use node_rules::number_of;
+use msg_wire::{Command, Step, What, number_of};
 use quota_table::OutOfMemory;
 use spec_base::{NodeId, Side};
 
@@ -114,7 +113,7 @@ fn fill_lagging(seq: &Sequencer, out: &mut Step) -> Result<(), OutOfMemory>
         agreed.rounds_covered(),
         &lengths(&seq.own),
     );
-    fill_rows(seq, rows.rows(), out)
+    fill_rows(seq, rows.as_slice(), out)
 }
 
 /// Asks the primary of each row to fill its log up, in order.

@@ -104,7 +104,9 @@ fn cut(seq: &Sequencer) -> Option<Entry>
     let agreed = seq.base.agreed();
     let window = agreed.current();
     let round = agreed.rounds_covered();
-    let lags = !lagging(window, round, &lengths(&seq.own)).rows().is_empty();
+    let lags = !lagging(window, round, &lengths(&seq.own))
+        .as_slice()
+        .is_empty();
     let more = round + 1 < window.rounds() || agreed.granted().is_some();
     if lags || !has_uncovered(seq) || !more {
         return None;

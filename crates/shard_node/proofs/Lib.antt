@@ -1,4 +1,3 @@
-pub mod Limits
 pub mod Places
 pub mod Restarts
 pub mod Keeps
@@ -7,5 +6,3 @@ pub mod Lives
 pub mod Messages
 pub mod Within
 pub mod Loops
-pub mod Promising
-pub mod Fits

@@ -72,11 +72,16 @@ pub record Answers (n : Node ReplicaState) (event : Event) (s : Node ReplicaStat
 
 pub data Says (n : Node ReplicaState) (event : Event) (s : Node ReplicaState) : NodeId → What → Type 0 where
   reports : (to : NodeId) (i : ℕ) → slice_get (sequencers_of s.base.cfg) i ≡ Some to → Says n event s to (whats.Report (length s.own.log))
-  copies : (local : ℕ) (rec : Record) → slice_get s.own.log local ≡ Some rec → Says n event s (nodes.Shard (shard_by s) sides.Backup) (whats.Replicate local rec)
-  tells_length : (from : NodeId) (local : ℕ) (rec : Record) → Comes n event from (whats.Replicate local rec) → Says n event s from (whats.Replicated (length s.own.log))
-  promises : (to : NodeId) (i position : ℕ) (rec : Record) → slice_get (consumers_of s.base.cfg) i ≡ Some to → Promises s position rec → Says n event s to (whats.Deliver s.own.promised rec)
-  fetched : (from : NodeId) (local : ℕ) (rec : Record) → Comes n event from (whats.Fetch local) → local < durable_locals s → slice_get s.own.log local ≡ Some rec → Says n event s from (whats.Deliver local rec)
-  confirms : (local position client number : ℕ) (body : List ℕ) → is_primary s.base.me ≡ true → Confirms n event s local position (records.Data client number body)
+  copies : (local : ℕ) (rec : Record) → is_primary s.base.me ≡ true → slice_get s.own.log local ≡ Some rec
+      → Says n event s (nodes.Shard (shard_by s) sides.Backup) (whats.Replicate local rec)
+  tells_length : (from : NodeId) (local : ℕ) (rec : Record) → Comes n event from (whats.Replicate local rec)
+      → Says n event s from (whats.Replicated (length s.own.log))
+  promises : (to : NodeId) (i position : ℕ) (rec : Record) → slice_get (consumers_of s.base.cfg) i ≡ Some to → Promises s position rec
+      → Says n event s to (whats.Deliver s.own.promised rec)
+  fetched : (from : NodeId) (local : ℕ) (rec : Record) → Comes n event from (whats.Fetch local) → local < durable_locals s
+      → slice_get s.own.log local ≡ Some rec → Says n event s from (whats.Deliver local rec)
+  confirms : (local position client number : ℕ) (body : List ℕ) → is_primary s.base.me ≡ true
+      → Confirms n event s local position (records.Data client number body)
       → Says n event s (nodes.Client client) (whats.Ack number position)
   acks_again : (from : NodeId) (first number : ℕ) (body : List ℕ) (local position : ℕ) → Comes n event from (whats.Append first number body) → number < 2 ^ 48
       → local_of (number_of from) number s.own.log ≡ Some local → IsPlaced s local position → Says n event s from (whats.Ack number position)
@@ -90,18 +95,22 @@ pub data Shows (n : Node ReplicaState) (event : Event) (s : Node ReplicaState) :
   promised : (position : ℕ) (rec : Record) → Promises s position rec → Shows n event s (marks.Promise position rec)
 
 pub data Stores (n : Node ReplicaState) (event : Event) (s : Node ReplicaState) : Item → ReplicaState → Type 0 where
-  appends : (from : NodeId) (first number : ℕ) (body : List ℕ) → Comes n event from (whats.Append first number body) → IsThere s → number < 2 ^ 48 → length s.own.log < 2 ^ 48
+  appends : (from : NodeId) (first number : ℕ) (body : List ℕ) → Comes n event from (whats.Append first number body) → IsThere s → number < 2 ^ 48
+      → length s.own.log < 2 ^ 48
       → number ≡ expected_of (number_of from) first s.own.log
       → Stores n event s (items.Taken (records.Data (number_of from) number body)) (with_log (s.own.log ++ records.Data (number_of from) number body ∷ []) s.own)
-  copied : (from : NodeId) (rec : Record) → Comes n event from (whats.Replicate (length s.own.log) rec) → length s.own.log < 2 ^ 48 → Stores n event s (items.Taken rec) (with_log (s.own.log ++ rec ∷ []) s.own)
+  copied : (from : NodeId) (rec : Record) → Comes n event from (whats.Replicate (length s.own.log) rec) → length s.own.log < 2 ^ 48
+      → Stores n event s (items.Taken rec) (with_log (s.own.log ++ rec ∷ []) s.own)
   fills : (from : NodeId) (wanted : ℕ) → Comes n event from (whats.Fill wanted) → IsThere s → length s.own.log < wanted
       → Stores n event s (items.Noops (min (wanted - length s.own.log) 64)) (with_log (s.own.log ++ replicate (min (wanted - length s.own.log) 64) records.Noop) s.own)
 
 pub data Changes (n : Node ReplicaState) (event : Event) (s : Node ReplicaState) : ReplicaState → Type 0 where
   holds : (from : NodeId) (len : ℕ) → Comes n event from (whats.Replicated len) → Changes n event s (durable_to (min len (length s.own.log)) s.own)
-  covers : (before : Agreement) (entry : Entry) → Learned n event s before entry → Changes n event s (durable_to (covered_locals (agreed_by s.base) (shard_by s)) s.own)
+  covers : (before : Agreement) (entry : Entry) → Learned n event s before entry
+      → Changes n event s (durable_to (covered_locals (agreed_by s.base) (shard_by s)) s.own)
   cuts : (first : ℕ) → Notices n event s first → Changes n event s (with_promised (covered_locals (agreed_by s.base) (shard_by s)) s.own)
-  promises_on : s.own.promised < s.own.durable → is_primary s.base.me ≡ true → is_some (leased (agreed_by s.base) (shard_by s) s.own.promised) ≡ true → Changes n event s (with_promised (s.own.promised + 1) s.own)
+  promises_on : s.own.promised < s.own.durable → is_primary s.base.me ≡ true → is_some (leased (agreed_by s.base) (shard_by s) s.own.promised) ≡ true
+      → Changes n event s (with_promised (s.own.promised + 1) s.own)
 
 abbrev pub replica_places : Places ReplicaState
 replica_places = record { Learns = IsTold; Says = Says; Shows = Shows; Stores = Stores; Changes = Changes; reset = reset_of; shown = λ n. [] }

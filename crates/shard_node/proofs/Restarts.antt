@@ -1,8 +1,6 @@
 -- What a restart in place leaves is what the items leave that were stored.
 use Rattle.std.proofs.Common.{◌≡◌, ◌+◌, ◌^◌, Bool, true, false, List, [], ◌∷◌, ◌++◌, length, replicate, refl, sym, ap, ◌∙◌}
 use Rattle.std.specs.Prelude.{if◌then◌else◌, nat_le}
-use Rattle.std.specs.List.{fold}
-use Rattle.std.proofs.lemmas.List.Sums.{fold-append}
 use Rattle.node_rules.specs.Names.{Entry, Record, Item}
 use Rattle.node_rules.specs.Names.records
 use Rattle.node_rules.specs.Names.items
@@ -26,32 +24,17 @@ reset-fit : (n : Node ReplicaState) (item : Item) → reset_of (fit n item) ≡ 
 reset-fit n (items.Known entry) = reset-fit_known entry n
 reset-fit n (items.Taken rec) = reset-fit_records (rec ∷ []) n
 reset-fit n (items.Noops count) = reset-fit_records (replicate count records.Noop) n
-reset-fit n (items.Promised slot ballot) = refl
-reset-fit n (items.Accepted slot ballot entry) = refl
-reset-fit n (items.Submitted body) = refl
-reset-fit n items.Acked = refl
-reset-fit n (items.Moved shard first) = refl
-reset-fit n (items.Confirmed rec output) = refl
+reset-fit n _ = refl
 
--- so do several
-pub reset-fold : (n : Node ReplicaState) (stored : List Item) → reset_of (fold fit n stored) ≡ reset_of (fold fit (reset_of n) stored)
-reset-fold n [] = refl
-reset-fold n (item ∷ stored) =
-    reset-fold (fit n item) stored ∙ ap (λ (m : Node ReplicaState). reset_of (fold fit m stored)) (reset-fit n item) ∙ sym (reset-fold (fit (reset_of n) item) stored)
-
--- nodes of which a restart leaves the same are left the same by the same items
-pub same-fold : (m n : Node ReplicaState) (stored : List Item) → reset_of m ≡ reset_of n → reset_of (fold fit m stored) ≡ reset_of (fold fit n stored)
-same-fold m n stored e = reset-fold m stored ∙ ap (λ (x : Node ReplicaState). reset_of (fold fit x stored)) e ∙ sym (reset-fold n stored)
+-- nodes of which a restart leaves the same are left the same by the same item
+pub same-fit : (m n : Node ReplicaState) (item : Item) → reset_of m ≡ reset_of n → reset_of (fit m item) ≡ reset_of (fit n item)
+same-fit m n item e = reset-fit m item ∙ ap (λ (x : Node ReplicaState). reset_of (fit x item)) e ∙ sym (reset-fit n item)
 
 -- ---- one more item that fits
-
-pub fits_one : (n before after : Node ReplicaState) (stored : List Item) (item : Item)
-    → reset_of (fold fit n stored) ≡ reset_of before → reset_of (fit before item) ≡ reset_of after → reset_of (fold fit n (stored ++ item ∷ [])) ≡ reset_of after
-fits_one n before after stored item e one =
-    ap reset_of (fold-append fit n stored (item ∷ [])) ∙ same-fold (fold fit n stored) before (item ∷ []) e ∙ one
 
 pub fits_known : (n : Node ReplicaState) (entry : Entry) → has_slot n.base ≡ true → fit n (items.Known entry) ≡ record n { base = knowing entry n.base }
 fits_known n entry slot = ap (λ (b : Bool). if b then record n { base = knowing entry n.base } else n) slot
 
-pub fits_records : (n : Node ReplicaState) (recs : List Record) → nat_le (length n.own.log + length recs) (2 ^ 48) ≡ true → fit_records recs n ≡ with_own (with_log (n.own.log ++ recs) n.own) n
+pub fits_records : (n : Node ReplicaState) (recs : List Record) → nat_le (length n.own.log + length recs) (2 ^ 48) ≡ true
+    → fit_records recs n ≡ with_own (with_log (n.own.log ++ recs) n.own) n
 fits_records n recs room = ap (λ (b : Bool). if b then with_own (with_log (n.own.log ++ recs) n.own) n else n) room

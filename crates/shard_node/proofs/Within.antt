@@ -15,7 +15,7 @@ use Rattle.node_rules.proofs.Places.{Comes}
 use Rattle.node_rules.proofs.Within.{HasClient, SaysWithin, TakesWithin, IsWithin, StaysWithin, ComesWithin, comes_within, told_within, sequencers_within, consumers_within, KeepsWithin, staying}
 use Rattle.shard_node.specs.States.{ReplicaState}
 use Rattle.shard_node.specs.Steps.{replica_step}
-use Rattle.shard_node.proofs.Places.{Says, Stores, Changes, reports, copies, tells_length, promises, fetched, confirms, acks_again, acks_fate, fates, appends, copied, fills, holds, covers, cuts, promises_on, replica_places}
+use Rattle.shard_node.proofs.Places.{Says, Stores, Changes, reports, copies, tells_length, promises, fetched, confirms, acks_again, acks_fate, fates, appends, copied, fills, holds, replica_places}
 use Rattle.shard_node.proofs.Walk.{replica_walk}
 
 -- its shard has nodes, and the records of its log are of the cluster's clients
@@ -33,7 +33,8 @@ client_within c (nodes.Seq n) here e = absurd (cc)
 client_within c (nodes.Shard n side) here e = absurd (cc)
 client_within c (nodes.Consumer n) here e = absurd (cc)
 
-longer : (c : Config) (s : Node ReplicaState) (recs : List Record) (own : ReplicaState) → own.log ≡ s.own.log ++ recs → AllByRecursion (HasClient c) recs → IsIn c s → HasShard c s.base.me own
+longer : (c : Config) (s : Node ReplicaState) (recs : List Record) (own : ReplicaState) → own.log ≡ s.own.log ++ recs → AllByRecursion (HasClient c) recs
+    → IsIn c s → HasShard c s.base.me own
 longer c s recs own e has is =
     let all : AllByRecursion (HasClient c) (s.own.log ++ recs) = all_append (HasClient c) s.own.log recs is.own.clients has in
     record { shard = is.own.shard; clients = subst (AllByRecursion (HasClient c)) (sym e) all }
@@ -44,7 +45,7 @@ module _ (c : Config) (n : Node ReplicaState) (event : Event) (begins : IsIn c n
 
   says_within : (s : Node ReplicaState) (to : NodeId) (what : What) → Says n event s to what → IsIn c s → IsNodeOf c to × SaysWithin c what
   says_within s to _ (reports _ i at) is = (all_at (IsNodeOf c) (sequencers_of s.base.cfg) i to (sequencers_within c s.base.cfg is.cfg) at, tt)
-  says_within s _ _ (copies local rec at) is = (is.own.shard, all_at (HasClient c) s.own.log local rec is.own.clients at)
+  says_within s _ _ (copies local rec primary at) is = (is.own.shard, all_at (HasClient c) s.own.log local rec is.own.clients at)
   says_within s from _ (tells_length _ local rec comes) is = ((came from _ comes).from_within, tt)
   says_within s to _ (promises _ i position rec there why) is = (all_at (IsNodeOf c) (consumers_of s.base.cfg) i to (consumers_within c s.base.cfg is.cfg) there, tt)
   says_within s from _ (fetched _ local rec comes durable at) is = ((came from _ comes).from_within, tt)
@@ -63,9 +64,7 @@ module _ (c : Config) (n : Node ReplicaState) (event : Event) (begins : IsIn c n
 
   changes_within : (s : Node ReplicaState) (own : ReplicaState) → Changes n event s own → IsIn c s → HasShard c s.base.me own
   changes_within s _ (holds from len comes) is = record { shard = is.own.shard; clients = is.own.clients }
-  changes_within s _ (covers before entry learned) is = record { shard = is.own.shard; clients = is.own.clients }
-  changes_within s _ (cuts first why) is = record { shard = is.own.shard; clients = is.own.clients }
-  changes_within s _ (promises_on durable primary free) is = record { shard = is.own.shard; clients = is.own.clients }
+  changes_within s _ _ is = record { shard = is.own.shard; clients = is.own.clients }
 
   keeps_within : KeepsWithin replica_places c (HasShard c) n event
   keeps_within = record {
@@ -76,6 +75,7 @@ module _ (c : Config) (n : Node ReplicaState) (event : Event) (begins : IsIn c n
     changes = changes_within;
   }
 
-pub replica_within : (c : Config) (n : Node ReplicaState) (event : Event) → IsValidConfig c → TakesWithin c event → IsIn c n → StaysWithin c ReplicaState (HasShard c) (replica_step n event)
+pub replica_within : (c : Config) (n : Node ReplicaState) (event : Event) → IsValidConfig c → TakesWithin c event → IsIn c n
+    → StaysWithin c ReplicaState (HasShard c) (replica_step n event)
 replica_within c n event valid takes is =
     replica_walk (StaysWithin c ReplicaState (HasShard c)) n event (staying replica_places c (HasShard c) n event (keeps_within c n event is takes) valid is takes)

@@ -22,5 +22,6 @@ RestartIsTheItems =
 -- what a step stores and sends is valid
 abbrev pub StepsAreValid : Type 0
 StepsAreValid =
-    (cfg : Config) (me : NodeId) (events : List Event) (event : Event) → IsValidConfig cfg → IsNodeOf cfg me → AllByRecursion IsValidEvent events → IsValidEvent event →
+    (cfg : Config) (me : NodeId) (events : List Event) (event : Event) → IsValidConfig cfg → IsNodeOf cfg me → AllByRecursion IsValidEvent events
+    → IsValidEvent event →
     IsValidStep (step_of (replica_step (replica_life cfg me events).node event))

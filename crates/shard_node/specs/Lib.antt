@@ -8,4 +8,4 @@ pub mod Restart
 pub mod Sound
 pub mod Laws
 pub mod Messages
-pub mod Rows
+pub mod Worked

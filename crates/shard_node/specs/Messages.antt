@@ -18,4 +18,5 @@ IsTrueOf log _ = Unit {0}
 -- every message that the step of any replica with any event sends is true of the log after it
 abbrev pub MessagesAreTrue : Type 0
 MessagesAreTrue =
-    (n : Node ReplicaState) (event : Event) → AllByRecursion (λ (m : Message). IsTrueOf (replica_step n event).state.own.log m.what) (replica_step n event).sends
+    (n : Node ReplicaState) (event : Event)
+    → AllByRecursion (λ (m : Message). IsTrueOf (replica_step n event).state.own.log m.what) (replica_step n event).sends

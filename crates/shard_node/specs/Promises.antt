@@ -10,12 +10,12 @@ use Rattle.node_rules.specs.Turns.{Turn, cfg_of, me_of, own_of, agreed, put_own,
 use Rattle.shard_node.specs.States.{ReplicaState, shard_of, log_of, with_promised}
 
 -- the position that the known windows lease to a local
-abbrev pub lease_of : Turn ReplicaState → ℕ → Option ℕ
-lease_of t local = leased (agreed t) (shard_of t) local
+abbrev pub lease_at : Turn ReplicaState → ℕ → Option ℕ
+lease_at t local = leased (agreed t) (shard_of t) local
 
 -- the durable locals from the promised ones on, up to the first that has no position
 abbrev pub to_promise : Turn ReplicaState → List ℕ
-to_promise t = take_while (λ local. is_some (lease_of t local)) (range_with_len (own_of t).promised ((own_of t).durable - (own_of t).promised))
+to_promise t = take_while (λ local. is_some (lease_at t local)) (range_with_len (own_of t).promised ((own_of t).durable - (own_of t).promised))
 
 -- a record is promised at its position, and delivered to every consumer
 abbrev pub promise_record : Option ℕ → Option Record → ℕ → Turn ReplicaState → Turn ReplicaState
@@ -27,7 +27,7 @@ promise_record None rec local t = t
 -- one more local is promised
 abbrev pub promise : Turn ReplicaState → ℕ → Turn ReplicaState
 promise t local =
-    put_own (with_promised (local + 1) (own_of t)) (promise_record (lease_of t local) (slice_get (log_of t) local) local t)
+    put_own (with_promised (local + 1) (own_of t)) (promise_record (lease_at t local) (slice_get (log_of t) local) local t)
 
 -- all that can be promised is
 abbrev pub promise_some : Turn ReplicaState → Turn ReplicaState

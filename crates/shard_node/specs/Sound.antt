@@ -7,8 +7,11 @@ use Rattle.node_rules.specs.Sound.{IsBase}
 use Rattle.shard_node.specs.States.{ReplicaState}
 
 -- its log has at most 2^48 records, each of them valid, and at most 2^48 are durable
+pub record IsOwn (s : ReplicaState) : Type 0 where
+  pub records : AllByRecursion IsValidRecord s.log
+  pub room : length s.log ≤ 2 ^ 48
+  pub durable : s.durable ≤ 2 ^ 48
+
 pub record IsReplica (n : Node ReplicaState) : Type 0 where
   pub base : IsBase n.base
-  pub records : AllByRecursion IsValidRecord n.own.log
-  pub room : length n.own.log ≤ 2 ^ 48
-  pub durable : n.own.durable ≤ 2 ^ 48
+  pub own : IsOwn n.own

@@ -12,13 +12,13 @@ mod node;
 mod promises;
 mod puts;
 mod restart;
-mod rows;
 mod rules;
 mod state;
 mod steps;
 #[cfg(test)]
 mod tests;
+mod worked;
 
-pub use node::ShardNode;
-pub use rows::rows_compute;
+pub use node::{ReadReplica, ShardNode};
 pub use state::ReplicaState;
+pub use worked::worked_compute;

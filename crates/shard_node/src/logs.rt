@@ -10,8 +10,7 @@ ghost use Rattle.shard_node.specs.Logs.{report, replicate_at, take_in, acknowled
 
 use crate::puts::{put_noops, put_record};
 use crate::state::{MOST, Replica, is_gone, shard_of};
-use msg_wire::{Item, Step, What};
-use node_rules::number_of;
+use msg_wire::{Item, Step, What, number_of};
 use quota_table::OutOfMemory;
 use record_codec::{Body, Record};
 use shard_log::Appended;

@@ -1,9 +1,8 @@
 //! A replica at its start, after a restart, and as the items of its vault give it.
 
 ghost use Rattle.std.specs.Prelude.{◌≡◌, ◌≤◌, ◌∷◌, [], IfOk, OnOk, replicate};
-ghost use Rattle.std.specs.List.{fold};
 ghost use Rattle.record_codec.specs.Records.{IsValidRecord};
-ghost use Rattle.msg_wire.specs.Valid.{IsValidConfig, IsNodeOf, IsValidItem, AreValidItems};
+ghost use Rattle.msg_wire.specs.Valid.{IsValidConfig, IsNodeOf, IsValidItem};
 ghost use Rattle.node_rules.specs.Names.records.{Noop};
 ghost use Rattle.shard_node.specs.Restart.{fresh_node, fit_records, fit, reset_of};
 
@@ -42,19 +41,8 @@ pub fn reset(replica: &mut Replica)
     replica.own.promised = covered;
 }
 
-/// Takes the items of a vault in order.
-pub fn fit_all(replica: &mut Replica, items: &[Item]) -> Result<(), OutOfMemory>
-    requires { AreValidItems items.now }
-    ensures { OnOk result (replica.new ≡ fold fit replica.old items.now) }
-{
-    for item in items {
-        fit(replica, item)?;
-    }
-    Ok(())
-}
-
 /// Takes one more item of a vault. One that does not fit is passed over.
-fn fit(replica: &mut Replica, item: &Item) -> Result<(), OutOfMemory>
+pub fn fit(replica: &mut Replica, item: &Item) -> Result<(), OutOfMemory>
     requires { IsValidItem item.now }
     ensures { OnOk result (replica.new ≡ fit replica.old item.now) }
 {

@@ -8,8 +8,7 @@ ghost use Rattle.shard_node.specs.Rules.{hear_replicated, hear_fetch, answer_fat
 
 use crate::logs::{acknowledge, replicate_at, report};
 use crate::state::{Replica, durable_of, is_primary, shard_of};
-use msg_wire::{Step, What};
-use node_rules::number_of;
+use msg_wire::{Step, What, number_of};
 use quota_table::OutOfMemory;
 use spec_base::NodeId;
 

@@ -4,7 +4,8 @@ ghost use Rattle.msg_wire.specs.Nodes.{is_primary, number_of};
 ghost use Rattle.node_rules.specs.Nodes.{agreed_by};
 ghost use Rattle.shard_node.specs.States.{durable_locals};
 
-use node_rules::{Node, number_of};
+use msg_wire::number_of;
+use node_rules::Node;
 use shard_log::ShardLog;
 use spec_base::{NodeId, Side};
 

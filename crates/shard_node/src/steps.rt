@@ -1,24 +1,19 @@
 //! A replica's step: each event with its rules, and the promises that end the step.
 
-ghost use Rattle.std.specs.Prelude.{◌≡◌, ◌<◌, ◌≤◌, OnOk};
-ghost use Rattle.record_codec.specs.Entries.{IsValidEntry};
+ghost use Rattle.std.specs.Prelude.{◌≡◌, OnOk};
 ghost use Rattle.msg_wire.specs.Valid.{IsValidMessage, IsValidEvent};
 ghost use Rattle.node_rules.specs.Names.events;
 ghost use Rattle.node_rules.specs.Turns.{turn_of, empty_step};
-ghost use Rattle.node_rules.specs.Rules.{heed, learn_next, decided};
-ghost use Rattle.shard_node.specs.Learning.{on_learned};
 ghost use Rattle.shard_node.specs.Steps.{hear, replica_step};
 ghost use Rattle.shard_node.specs.Sound.{IsReplica};
 
-use crate::learning::on_learned;
 use crate::logs::{hear_append, hear_fill, hear_replicate};
 use crate::promises::promise_all;
 use crate::restart::reset;
 use crate::rules::{hear_ask_fate, hear_fetch, hear_replicated, on_tick};
-use crate::state::{Replica, covered_of};
+use crate::state::Replica;
 use msg_wire::{Event, Message, Step, What};
-use quota_table::{Entry, OutOfMemory};
-use spec_base::NodeId;
+use quota_table::OutOfMemory;
 
 /// The step of an event, written into a step that gives nothing yet. A restart leaves what the stored items give; a
 /// primary's step of any other event ends with its promises.
@@ -46,7 +41,7 @@ pub fn deliver(replica: &mut Replica, message: &Message, out: &mut Step) -> Resu
     requires empty { out.old ≡ empty_step }
     ensures { OnOk result (turn_of replica.new out.new ≡ replica_step replica.old (events.Deliver message.now)) }
 {
-    heed(replica, message, out)?;
+    replica.heed(message, out)?;
     promise_all(replica, out)
 }
 
@@ -60,28 +55,16 @@ fn tick(replica: &mut Replica, out: &mut Step) -> Result<(), OutOfMemory>
     promise_all(replica, out)
 }
 
-/// A message that comes. One that is not heeded does nothing by itself.
-fn heed(replica: &mut Replica, message: &Message, out: &mut Step) -> Result<(), OutOfMemory>
-    requires { IsValidMessage message.now }
-    ensures { OnOk result (turn_of replica.new out.new ≡ heed hear message.now (turn_of replica.old out.old)) }
-{
-    if replica.heeds(message) {
-        hear(replica, message, out)
-    } else {
-        Ok(())
-    }
-}
-
 /// A message that is heeded.
-#[tactic(auto, using(crate::proofs::Limits::number_limit))]
-fn hear(replica: &mut Replica, message: &Message, out: &mut Step) -> Result<(), OutOfMemory>
+#[tactic(auto, using(node_rules::proofs::Limits::number_limit))]
+pub fn hear(replica: &mut Replica, message: &Message, out: &mut Step) -> Result<(), OutOfMemory>
     requires { IsValidMessage message.now }
     ensures { OnOk result (turn_of replica.new out.new ≡ hear message.now.from message.now.what (turn_of replica.old out.old)) }
 {
     let from = message.from;
     match &message.what {
         What::Decided { slot, count, entry } => {
-            hear_decided(replica, from, *slot, *count, entry, out)
+            replica.hear_decided(from, *slot, *count, entry, out)
         }
         What::Append {
             first,
@@ -98,42 +81,4 @@ fn hear(replica: &mut Replica, message: &Message, out: &mut Step) -> Result<(), 
         What::AskFate { first, least } => hear_ask_fate(replica, from, *first, *least, out),
         _ => Ok(()),
     }
-}
-
-/// Decided: a sequencer tells the entry of a slot, and how many it knows.
-fn hear_decided(
-    replica: &mut Replica,
-    from: NodeId,
-    slot: u32,
-    count: u32,
-    entry: &Entry,
-    out: &mut Step,
-) -> Result<(), OutOfMemory>
-    requires slot { slot < 1000000 }
-    requires count { count ≤ 1000000 }
-    requires entry { IsValidEntry entry.now }
-    ensures { OnOk result (turn_of replica.new out.new ≡ decided on_learned from slot count entry.now (turn_of replica.old out.old)) }
-{
-    replica.base.see(count);
-    learn_next(replica, slot, entry, out)?;
-    replica.ask_on(from, out)
-}
-
-/// Learns the entry where its slot is the next.
-fn learn_next(
-    replica: &mut Replica,
-    slot: u32,
-    entry: &Entry,
-    out: &mut Step,
-) -> Result<(), OutOfMemory>
-    requires slot { slot < 1000000 }
-    requires entry { IsValidEntry entry.now }
-    ensures { OnOk result (turn_of replica.new out.new ≡ learn_next on_learned slot entry.now (turn_of replica.old out.old)) }
-{
-    if slot != replica.base.count() {
-        return Ok(());
-    }
-    let before = covered_of(replica);
-    let effect = replica.learn(entry, out)?;
-    on_learned(replica, before, effect, out)
 }

@@ -1,94 +1,67 @@
 //! What an independent model of the protocol gave in a longer history: the steps of the last of five sequencers.
 
-use super::live;
-use crate::SeqNode;
-use life_tables::Comes::*;
-use life_tables::Value;
-use life_tables::clusters::{SIX_ROWS, six_shards};
-use spec_base::NodeId;
-use std::test::Fail;
+use life_tables::Life;
+use life_tables::clusters::SIX_SHARDS;
 
-#[test]
-fn a_sequencer_that_only_listens(rt: HostRuntime) -> Result<(), Fail> {
-    let alloc = rt.alloc();
-    let me = NodeId::Seq(4);
-    let mut node = SeqNode::new(alloc, &six_shards(alloc)?, me)?;
-    let turns = [
-        ("s5p", Report(1), ""),
-        ("s5p", Report(1), ""),
-        ("s5b", Report(1), ""),
-        ("s5p", Report(2), ""),
-        ("s1p", Report(1), ""),
-        (
-            "q0",
-            Accept(0, 0, Value::Grant(0, 1, SIX_ROWS)),
-            "item Accepted { slot: 0, ballot: 0, entry: Table { after: 0, rounds: 1, rows: [(0, 6), (5, 7), (2, 1), (3, 2), (4, 3), (1, 8)] } }\n\
-             send to q0 Accepted { slot: 0, ballot: 0 }\n",
-        ),
-        ("s5b", Report(2), ""),
-        ("s1b", Report(1), ""),
-        (
-            "q0",
-            Decided(0, 0, Value::Grant(0, 1, SIX_ROWS)),
-            "item Known { entry: Table { after: 0, rounds: 1, rows: [(0, 6), (5, 7), (2, 1), (3, 2), (4, 3), (1, 8)] } }\n",
-        ),
-        ("s0p", Report(6), ""),
-        ("s5p", Report(7), ""),
-        ("s2p", Report(1), ""),
-        ("s3p", Report(2), ""),
-        ("s4p", Report(3), ""),
-        ("s1p", Report(8), ""),
-        ("s0b", Report(1), ""),
-        ("s0b", Report(2), ""),
-        ("s0b", Report(3), ""),
-        ("s0b", Report(4), ""),
-        ("s0b", Report(5), ""),
-        ("s0b", Report(6), ""),
-        ("s5b", Report(3), ""),
-        ("s5b", Report(4), ""),
-        ("s5b", Report(5), ""),
-        ("s5b", Report(6), ""),
-        ("s5b", Report(7), ""),
-        ("s2b", Report(1), ""),
-        ("s3b", Report(1), ""),
-        ("s3b", Report(2), ""),
-        ("s4b", Report(1), ""),
-        ("s4b", Report(2), ""),
-        ("s4b", Report(3), ""),
-        ("s1b", Report(2), ""),
-        ("s1b", Report(3), ""),
-        ("s1b", Report(4), ""),
-        ("s1b", Report(5), ""),
-        ("s1b", Report(6), ""),
-        ("s1b", Report(7), ""),
-        ("s1b", Report(8), ""),
-        (
-            "q0",
-            Accept(1, 0, Value::Cut(0, 0)),
-            "item Accepted { slot: 1, ballot: 0, entry: Cut { window: 0, round: 0 } }\n\
-             send to q0 Accepted { slot: 1, ballot: 0 }\n",
-        ),
-        (
-            "q0",
-            Decided(1, 0, Value::Cut(0, 0)),
-            "item Known { entry: Cut { window: 0, round: 0 } }\n",
-        ),
-        ("q3", Learn(2), ""),
-        ("", Tick, "send to q0 Learn { slot: 2 }\n"),
-        ("s0p", Report(6), ""),
-        ("s0b", Report(6), ""),
-        ("s1p", Report(8), ""),
-        ("s1b", Report(8), ""),
-        ("s2p", Report(1), ""),
-        ("s2b", Report(1), ""),
-        ("s3p", Report(2), ""),
-        ("s3b", Report(2), ""),
-        ("s4p", Report(3), ""),
-        ("s4b", Report(3), ""),
-        ("s5p", Report(7), ""),
-        ("s5b", Report(7), ""),
-        ("q3", Learn(2), ""),
-        ("", Tick, "send to q0 Learn { slot: 2 }\n"),
-    ];
-    live(&rt, alloc, &mut node, me, &turns)
-}
+/// A sequencer that only listens.
+const LISTENS: &str = r#"
+s5p report 1
+s5p report 1
+s5b report 1
+s5p report 2
+s1p report 1
+q0 accept 0 0 table 0 1 0:6 5:7 2:1 3:2 4:3 1:8 | item accepted 0 0 table 0 1 0:6 5:7 2:1 3:2 4:3 1:8 | to q0 accepted 0 0
+s5b report 2
+s1b report 1
+q0 decided 0 1 table 0 1 0:6 5:7 2:1 3:2 4:3 1:8 | item known table 0 1 0:6 5:7 2:1 3:2 4:3 1:8
+s0p report 6
+s5p report 7
+s2p report 1
+s3p report 2
+s4p report 3
+s1p report 8
+s0b report 1
+s0b report 2
+s0b report 3
+s0b report 4
+s0b report 5
+s0b report 6
+s5b report 3
+s5b report 4
+s5b report 5
+s5b report 6
+s5b report 7
+s2b report 1
+s3b report 1
+s3b report 2
+s4b report 1
+s4b report 2
+s4b report 3
+s1b report 2
+s1b report 3
+s1b report 4
+s1b report 5
+s1b report 6
+s1b report 7
+s1b report 8
+q0 accept 1 0 cut 0 0 | item accepted 1 0 cut 0 0 | to q0 accepted 1 0
+q0 decided 1 2 cut 0 0 | item known cut 0 0
+q3 learn 2
+tick | to q0 learn 2
+s0p report 6
+s0b report 6
+s1p report 8
+s1b report 8
+s2p report 1
+s2b report 1
+s3p report 2
+s3b report 2
+s4p report 3
+s4b report 3
+s5p report 7
+s5b report 7
+q3 learn 2
+tick | to q0 learn 2
+"#;
+
+pub(super) const LIVES: &[Life] = &[(SIX_SHARDS, "q4", &[], &[LISTENS])];

@@ -1,306 +1,67 @@
 //! Two lives of replicas of a larger cluster, step by step as an independent model of the protocol has them.
 
-use super::{Cluster, Life};
-use life_tables::Comes::*;
-use life_tables::{Turn, Value};
-use quota_table::Asked;
-use spec_base::Side;
-
-/// The shards that are left.
-const REST: &[Asked] = &[Asked { shard: 1, quota: 1 }, Asked { shard: 0, quota: 1 }];
+use life_tables::Life;
+use life_tables::agreed::{FIRST_WINDOW, NEXT_WINDOW};
+use life_tables::clusters::TRIO;
 
 /// Shard 2 goes, with a record that it has promised.
-const GONE: &[Turn] = &[
-    (
-        "c1",
-        Append(0, 0, b""),
-        "item Taken { rec: Data { client: 1, number: 0, body: \"\" } }\n\
-         send to s2b Replicate { local: 0, rec: Data { client: 1, number: 0, body: \"\" } }\n\
-         send to q0 Report { len: 1 }\n\
-         send to q1 Report { len: 1 }\n\
-         send to q2 Report { len: 1 }\n",
-    ),
-    (
-        "s2b",
-        Replicated(1),
-        "send to k0 Deliver { local: 0, rec: Data { client: 1, number: 0, body: \"\" } }\n\
-         mark Promise { position: 1, rec: Data { client: 1, number: 0, body: \"\" } }\n",
-    ),
-    (
-        "q0",
-        Decided(0, 0, Value::Removal(0, 2)),
-        "item Known { entry: Remove { window: 0, shard: 2 } }\n\
-         mark Notice { first: 1 }\n",
-    ),
-    ("c0", Append(0, 0, b"set k31 v29"), ""),
-    ("c0", AskFate(0, 0), "send to c0 Fate { next: 0 }\n"),
-    ("c1", AskFate(0, 0), "send to c1 Fate { next: 0 }\n"),
-    (
-        "q0",
-        Decided(1, 0, Value::Removal(1, 2)),
-        "item Known { entry: Remove { window: 1, shard: 2 } }\n",
-    ),
-    ("c0", AskFate(0, 0), "send to c0 Fate { next: 0 }\n"),
-    ("c1", AskFate(0, 0), "send to c1 Fate { next: 0 }\n"),
-    (
-        "q0",
-        Decided(2, 0, Value::Removal(1, 2)),
-        "item Known { entry: Remove { window: 1, shard: 2 } }\n",
-    ),
-    (
-        "q0",
-        Decided(3, 0, Value::Cut(1, 0)),
-        "item Known { entry: Cut { window: 1, round: 0 } }\n",
-    ),
-    (
-        "q0",
-        Decided(4, 0, Value::Grant(1, 4, REST)),
-        "item Known { entry: Table { after: 1, rounds: 4, rows: [(1, 1), (0, 1)] } }\n",
-    ),
-    (
-        "q0",
-        Decided(5, 0, Value::Cut(1, 1)),
-        "item Known { entry: Cut { window: 1, round: 1 } }\n",
-    ),
-    (
-        "q0",
-        Decided(6, 0, Value::Cut(1, 2)),
-        "item Known { entry: Cut { window: 1, round: 2 } }\n",
-    ),
-    (
-        "q0",
-        Decided(7, 0, Value::Cut(1, 3)),
-        "item Known { entry: Cut { window: 1, round: 3 } }\n",
-    ),
-    (
-        "q0",
-        Decided(8, 0, Value::Cut(5, 0)),
-        "item Known { entry: Cut { window: 5, round: 0 } }\n",
-    ),
-    (
-        "q0",
-        Decided(9, 0, Value::Grant(5, 4, REST)),
-        "item Known { entry: Table { after: 5, rounds: 4, rows: [(1, 1), (0, 1)] } }\n",
-    ),
-    (
-        "",
-        Tick,
-        "send to q0 Learn { slot: 10 }\n\
-         send to q0 Report { len: 1 }\n\
-         send to q1 Report { len: 1 }\n\
-         send to q2 Report { len: 1 }\n",
-    ),
-    (
-        "q0",
-        Decided(10, 0, Value::Cut(5, 1)),
-        "item Known { entry: Cut { window: 5, round: 1 } }\n",
-    ),
-    (
-        "",
-        Tick,
-        "send to q1 Learn { slot: 11 }\n\
-         send to q0 Report { len: 1 }\n\
-         send to q1 Report { len: 1 }\n\
-         send to q2 Report { len: 1 }\n",
-    ),
-    (
-        "q0",
-        Decided(11, 0, Value::Cut(5, 2)),
-        "item Known { entry: Cut { window: 5, round: 2 } }\n",
-    ),
-    (
-        "",
-        Tick,
-        "send to q2 Learn { slot: 12 }\n\
-         send to q0 Report { len: 1 }\n\
-         send to q1 Report { len: 1 }\n\
-         send to q2 Report { len: 1 }\n",
-    ),
-];
+const GOES: &str = r#"
+c1 append 0 0 | item taken 1 0 "" | to s2b replicate 0 1 0 "" | to q0 q1 q2 report 1
+s2b replicated 1 | to k0 deliver 0 1 0 "" | mark promise 1 1 0 ""
+q0 decided 0 1 remove 0 2 | item known remove 0 2 | mark notice 1
+c0 append 0 0 set k31 v29
+c0 ask 0 0 | to c0 fate 0
+c1 ask 0 0 | to c1 fate 0
+q0 decided 1 2 remove 1 2 | item known remove 1 2
+c0 ask 0 0 | to c0 fate 0
+c1 ask 0 0 | to c1 fate 0
+"#;
+
+/// It tells of its record all the same.
+const GONE: &str = r#"
+tick | to q0 learn 10 | to q0 q1 q2 report 1
+q0 decided 10 11 cut 5 1 | item known cut 5 1
+tick | to q1 learn 11 | to q0 q1 q2 report 1
+q0 decided 11 12 cut 5 2 | item known cut 5 2
+tick | to q2 learn 12 | to q0 q1 q2 report 1
+now | 1 records, 1 durable, 12 known
+"#;
 
 /// Shard 0 stays, and takes the record of a client whose shard went.
-const LEFT: &[Turn] = &[
-    (
-        "c3",
-        Append(0, 0, b"set k44 v16"),
-        "item Taken { rec: Data { client: 3, number: 0, body: \"set k44 v16\" } }\n\
-         send to s0b Replicate { local: 0, rec: Data { client: 3, number: 0, body: \"set k44 v16\" } }\n\
-         send to q0 Report { len: 1 }\n\
-         send to q1 Report { len: 1 }\n\
-         send to q2 Report { len: 1 }\n",
-    ),
-    (
-        "q0",
-        Decided(0, 0, Value::Removal(0, 2)),
-        "item Known { entry: Remove { window: 0, shard: 2 } }\n\
-         mark Notice { first: 1 }\n",
-    ),
-    (
-        "c3",
-        Append(0, 1, b"1"),
-        "item Taken { rec: Data { client: 3, number: 1, body: \"1\" } }\n\
-         send to s0b Replicate { local: 1, rec: Data { client: 3, number: 1, body: \"1\" } }\n\
-         send to q0 Report { len: 2 }\n\
-         send to q1 Report { len: 2 }\n\
-         send to q2 Report { len: 2 }\n",
-    ),
-    (
-        "c3",
-        Append(0, 2, b"? ~ x"),
-        "item Taken { rec: Data { client: 3, number: 2, body: \"? ~ x\" } }\n\
-         send to s0b Replicate { local: 2, rec: Data { client: 3, number: 2, body: \"? ~ x\" } }\n\
-         send to q0 Report { len: 3 }\n\
-         send to q1 Report { len: 3 }\n\
-         send to q2 Report { len: 3 }\n",
-    ),
-    (
-        "q0",
-        Decided(1, 0, Value::Removal(1, 2)),
-        "item Known { entry: Remove { window: 1, shard: 2 } }\n",
-    ),
-    (
-        "s0b",
-        Replicated(1),
-        "send to k0 Deliver { local: 0, rec: Data { client: 3, number: 0, body: \"set k44 v16\" } }\n\
-         mark Promise { position: 1, rec: Data { client: 3, number: 0, body: \"set k44 v16\" } }\n",
-    ),
-    (
-        "s0b",
-        Replicated(2),
-        "send to k0 Deliver { local: 1, rec: Data { client: 3, number: 1, body: \"1\" } }\n\
-         mark Promise { position: 3, rec: Data { client: 3, number: 1, body: \"1\" } }\n",
-    ),
-    (
-        "s0b",
-        Replicated(3),
-        "send to k0 Deliver { local: 2, rec: Data { client: 3, number: 2, body: \"? ~ x\" } }\n\
-         mark Promise { position: 5, rec: Data { client: 3, number: 2, body: \"? ~ x\" } }\n",
-    ),
-    (
-        "c1",
-        Append(0, 0, b""),
-        "item Taken { rec: Data { client: 1, number: 0, body: \"\" } }\n\
-         send to s0b Replicate { local: 3, rec: Data { client: 1, number: 0, body: \"\" } }\n\
-         send to q0 Report { len: 4 }\n\
-         send to q1 Report { len: 4 }\n\
-         send to q2 Report { len: 4 }\n",
-    ),
-    (
-        "q0",
-        Decided(2, 0, Value::Removal(1, 2)),
-        "item Known { entry: Remove { window: 1, shard: 2 } }\n",
-    ),
-    (
-        "s0b",
-        Replicated(4),
-        "send to k0 Deliver { local: 3, rec: Data { client: 1, number: 0, body: \"\" } }\n\
-         mark Promise { position: 7, rec: Data { client: 1, number: 0, body: \"\" } }\n",
-    ),
-    (
-        "q0",
-        Decided(3, 0, Value::Cut(1, 0)),
-        "item Known { entry: Cut { window: 1, round: 0 } }\n\
-         send to c3 Ack { number: 0, position: 1 }\n\
-         mark Confirm { position: 1, rec: Data { client: 3, number: 0, body: \"set k44 v16\" } }\n",
-    ),
-    (
-        "q0",
-        Decided(4, 0, Value::Grant(1, 4, REST)),
-        "item Known { entry: Table { after: 1, rounds: 4, rows: [(1, 1), (0, 1)] } }\n",
-    ),
-    (
-        "q0",
-        Decided(5, 0, Value::Cut(1, 1)),
-        "item Known { entry: Cut { window: 1, round: 1 } }\n\
-         send to c3 Ack { number: 1, position: 3 }\n\
-         mark Confirm { position: 3, rec: Data { client: 3, number: 1, body: \"1\" } }\n",
-    ),
-    (
-        "q0",
-        Decided(6, 0, Value::Cut(1, 2)),
-        "item Known { entry: Cut { window: 1, round: 2 } }\n\
-         send to c3 Ack { number: 2, position: 5 }\n\
-         mark Confirm { position: 5, rec: Data { client: 3, number: 2, body: \"? ~ x\" } }\n",
-    ),
-    (
-        "q0",
-        Decided(7, 0, Value::Cut(1, 3)),
-        "item Known { entry: Cut { window: 1, round: 3 } }\n\
-         send to c1 Ack { number: 0, position: 7 }\n\
-         mark Confirm { position: 7, rec: Data { client: 1, number: 0, body: \"\" } }\n",
-    ),
-    (
-        "q0",
-        Fill(5),
-        "item Noops { count: 1 }\n\
-         send to s0b Replicate { local: 4, rec: Noop }\n\
-         send to q0 Report { len: 5 }\n\
-         send to q1 Report { len: 5 }\n\
-         send to q2 Report { len: 5 }\n",
-    ),
-    (
-        "s0b",
-        Replicated(5),
-        "send to k0 Deliver { local: 4, rec: Noop }\n\
-         mark Promise { position: 9, rec: Noop }\n",
-    ),
-    (
-        "q0",
-        Decided(8, 0, Value::Cut(5, 0)),
-        "item Known { entry: Cut { window: 5, round: 0 } }\n\
-         mark Confirm { position: 9, rec: Noop }\n",
-    ),
-    (
-        "q0",
-        Decided(9, 0, Value::Grant(5, 4, REST)),
-        "item Known { entry: Table { after: 5, rounds: 4, rows: [(1, 1), (0, 1)] } }\n",
-    ),
-    (
-        "",
-        Tick,
-        "send to q0 Learn { slot: 10 }\n\
-         send to q0 Report { len: 5 }\n\
-         send to q1 Report { len: 5 }\n\
-         send to q2 Report { len: 5 }\n",
-    ),
-    ("k0", Fetch(5), ""),
-    ("k0", Fetch(6), ""),
-    ("k0", Fetch(7), ""),
-    ("k0", Fetch(8), ""),
-    (
-        "q0",
-        Fill(6),
-        "item Noops { count: 1 }\n\
-         send to s0b Replicate { local: 5, rec: Noop }\n\
-         send to q0 Report { len: 6 }\n\
-         send to q1 Report { len: 6 }\n\
-         send to q2 Report { len: 6 }\n",
-    ),
-    (
-        "s0b",
-        Replicated(6),
-        "send to k0 Deliver { local: 5, rec: Noop }\n\
-         mark Promise { position: 11, rec: Noop }\n",
-    ),
-];
+const LEFT: &str = r#"
+c3 append 0 0 set k44 v16 | item taken 3 0 "set k44 v16" | to s0b replicate 0 3 0 "set k44 v16" | to q0 q1 q2 report 1
+q0 decided 0 1 remove 0 2 | item known remove 0 2 | mark notice 1
+c3 append 0 1 1 | item taken 3 1 "1" | to s0b replicate 1 3 1 "1" | to q0 q1 q2 report 2
+c3 append 0 2 ? ~ x | item taken 3 2 "? ~ x" | to s0b replicate 2 3 2 "? ~ x" | to q0 q1 q2 report 3
+q0 decided 1 2 remove 1 2 | item known remove 1 2
+s0b replicated 1 | to k0 deliver 0 3 0 "set k44 v16" | mark promise 1 3 0 "set k44 v16"
+s0b replicated 2 | to k0 deliver 1 3 1 "1" | mark promise 3 3 1 "1"
+s0b replicated 3 | to k0 deliver 2 3 2 "? ~ x" | mark promise 5 3 2 "? ~ x"
+c1 append 0 0 | item taken 1 0 "" | to s0b replicate 3 1 0 "" | to q0 q1 q2 report 4
+q0 decided 2 3 remove 1 2 | item known remove 1 2
+s0b replicated 4 | to k0 deliver 3 1 0 "" | mark promise 7 1 0 ""
+q0 decided 3 4 cut 1 0 | item known cut 1 0 | to c3 ack 0 1 | mark confirm 1 3 0 "set k44 v16"
+q0 decided 4 5 table 1 4 1:1 0:1 | item known table 1 4 1:1 0:1
+q0 decided 5 6 cut 1 1 | item known cut 1 1 | to c3 ack 1 3 | mark confirm 3 3 1 "1"
+q0 decided 6 7 cut 1 2 | item known cut 1 2 | to c3 ack 2 5 | mark confirm 5 3 2 "? ~ x"
+q0 decided 7 8 cut 1 3 | item known cut 1 3 | to c1 ack 0 7 | mark confirm 7 1 0 ""
+q0 fill 5 | item noops 1 | to s0b replicate 4 noop | to q0 q1 q2 report 5
+s0b replicated 5 | to k0 deliver 4 noop | mark promise 9 noop
+q0 decided 8 9 cut 5 0 | item known cut 5 0 | mark confirm 9 noop
+q0 decided 9 10 table 5 4 1:1 0:1 | item known table 5 4 1:1 0:1
+tick | to q0 learn 10 | to q0 q1 q2 report 5
+k0 fetch 5
+k0 fetch 6
+k0 fetch 7
+k0 fetch 8
+q0 fill 6 | item noops 1 | to s0b replicate 5 noop | to q0 q1 q2 report 6
+s0b replicated 6 | to k0 deliver 5 noop | mark promise 11 noop
+now | 6 records, 6 durable, 10 known
+"#;
 
 pub(super) const LIVES: &[Life] = &[
-    Life {
-        name: "a primary whose shard goes",
-        cluster: Cluster::Trio,
-        shard: 2,
-        side: Side::Primary,
-        stored: &[],
-        turns: GONE,
-        counts: (1, 1, 12),
-    },
-    Life {
-        name: "a primary that is left",
-        cluster: Cluster::Trio,
-        shard: 0,
-        side: Side::Primary,
-        stored: &[],
-        turns: LEFT,
-        counts: (6, 6, 10),
-    },
+    // A primary whose shard goes.
+    (TRIO, "s2p", &[], &[GOES, FIRST_WINDOW, NEXT_WINDOW, GONE]),
+    // A primary that is left.
+    (TRIO, "s0p", &[], &[LEFT]),
 ];

@@ -5,9 +5,8 @@ ghost use Rattle.spec_base.specs.Spelling.{IsValidNode};
 ghost use Rattle.msg_wire.specs.Nodes.{is_replica};
 ghost use Rattle.msg_wire.specs.Valid.{IsNodeOf, IsValidConfig};
 
-use crate::ShardNode;
-use life_tables::Comes::{self, *};
-use life_tables::clusters::single;
+use crate::{ReadReplica, ShardNode};
+use life_tables::clusters::SINGLE;
 use life_tables::event;
 use msg_wire::Config;
 use spec_base::{NodeId, Side};
@@ -18,18 +17,12 @@ use std::test::Fail;
 const MANY: u32 = 2_000;
 
 /// Takes a step, whatever it gives.
-fn pass(
-    alloc: Global,
-    node: &mut ShardNode,
-    me: NodeId,
-    from: &str,
-    comes: Comes,
-) -> Result<(), Fail>
+fn pass(alloc: Global, node: &mut ShardNode, me: NodeId, line: &str) -> Result<(), Fail>
     requires ready { node.old.spent ≡ false }
     requires me { IsValidNode me }
     ensures { OnOk result (node.new.spent ≡ false) }
 {
-    let event = event(alloc, me, from, &comes)?;
+    let event = event(alloc, me, line)?;
     let _step = node.step(alloc, &event)?;
     Ok(())
 }
@@ -42,8 +35,8 @@ fn fill(alloc: Global, node: &mut ShardNode, me: NodeId, round: u32) -> Result<(
     ensures { OnOk result (node.new.spent ≡ false) }
 {
     let len = 64 * (round + 1);
-    pass(alloc, node, me, "q0", Fill(len))?;
-    pass(alloc, node, me, "s0b", Replicated(len))
+    pass(alloc, node, me, &format!(in alloc; "q0 fill {len}")?)?;
+    pass(alloc, node, me, &format!(in alloc; "s0b replicated {len}")?)
 }
 
 /// All of the fills.
@@ -65,8 +58,8 @@ fn restarts(alloc: Global, node: &mut ShardNode, me: NodeId) -> Result<(), Fail>
     ensures { OnOk result (node.new.spent ≡ false) }
 {
     for _restart in 0..MANY {
-        pass(alloc, node, me, "", Restart)?;
-        pass(alloc, node, me, "", Tick)?;
+        pass(alloc, node, me, "restart")?;
+        pass(alloc, node, me, "tick")?;
     }
     Ok(())
 }
@@ -88,7 +81,7 @@ fn long_life(alloc: Global, cfg: &Config, me: NodeId) -> Result<[(u64, u64); 2],
 #[test]
 fn long_lives_end_in_time(rt: HostRuntime) -> Result<(), Fail> {
     let alloc = rt.alloc();
-    let cfg = single(alloc)?;
+    let cfg = SINGLE.config(alloc)?;
     let counts = long_life(alloc, &cfg, NodeId::Shard(0, Side::Primary))?;
     let len = 64 * u64::from(MANY);
     assert_eq!(rt; counts, [(len, len), (len, 0)]);

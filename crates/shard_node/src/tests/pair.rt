@@ -1,177 +1,58 @@
 //! Two shards, of which the first is removed: the one that goes, and the one that is left.
 
-use super::{Cluster, Life};
-use life_tables::Comes::*;
-use life_tables::{Turn, Value};
-use quota_table::Asked;
-use spec_base::Side;
+use super::single::{PROMISED, TAKEN};
+use life_tables::Life;
+use life_tables::clusters::PAIR;
 
 /// The first shard goes after the second one has promised a record.
-const LEFT: &[Turn] = &[
-    (
-        "c1",
-        Append(0, 0, b"7"),
-        "item Taken { rec: Data { client: 1, number: 0, body: \"7\" } }\n\
-         send to s1b Replicate { local: 0, rec: Data { client: 1, number: 0, body: \"7\" } }\n\
-         send to q0 Report { len: 1 }\n",
-    ),
-    (
-        "s1b",
-        Replicated(1),
-        "send to k0 Deliver { local: 0, rec: Data { client: 1, number: 0, body: \"7\" } }\n\
-         mark Promise { position: 1, rec: Data { client: 1, number: 0, body: \"7\" } }\n",
-    ),
-    (
-        "q0",
-        Decided(0, 0, Value::Removal(0, 0)),
-        "item Known { entry: Remove { window: 0, shard: 0 } }\n\
-         send to k0 Deliver { local: 0, rec: Data { client: 1, number: 0, body: \"7\" } }\n\
-         mark Notice { first: 0 }\n\
-         mark Promise { position: 0, rec: Data { client: 1, number: 0, body: \"7\" } }\n",
-    ),
-    // The other client comes, whose home is gone.
-    (
-        "c0",
-        Append(0, 0, b"5"),
-        "item Taken { rec: Data { client: 0, number: 0, body: \"5\" } }\n\
-         send to s1b Replicate { local: 1, rec: Data { client: 0, number: 0, body: \"5\" } }\n\
-         send to q0 Report { len: 2 }\n",
-    ),
-    (
-        "q0",
-        Decided(1, 0, Value::Cut(1, 0)),
-        "item Known { entry: Cut { window: 1, round: 0 } }\n\
-         send to c1 Ack { number: 0, position: 0 }\n\
-         mark Confirm { position: 0, rec: Data { client: 1, number: 0, body: \"7\" } }\n",
-    ),
-    (
-        "q0",
-        Decided(2, 0, Value::Grant(1, 4, &[Asked { shard: 1, quota: 1 }])),
-        "item Known { entry: Table { after: 1, rounds: 4, rows: [(1, 1)] } }\n",
-    ),
-    // The cut covers it before the backup has told of it, so that it is promised too.
-    (
-        "q0",
-        Decided(3, 0, Value::Cut(1, 1)),
-        "item Known { entry: Cut { window: 1, round: 1 } }\n\
-         send to c0 Ack { number: 0, position: 1 }\n\
-         send to k0 Deliver { local: 1, rec: Data { client: 0, number: 0, body: \"5\" } }\n\
-         mark Confirm { position: 1, rec: Data { client: 0, number: 0, body: \"5\" } }\n\
-         mark Promise { position: 1, rec: Data { client: 0, number: 0, body: \"5\" } }\n",
-    ),
-    // This shard is not gone, and has no fate to tell.
-    ("c1", AskFate(0, 1), ""),
-];
+const LEFT: &str = r#"
+c1 append 0 0 7 | item taken 1 0 "7" | to s1b replicate 0 1 0 "7" | to q0 report 1
+s1b replicated 1 | to k0 deliver 0 1 0 "7" | mark promise 1 1 0 "7"
+q0 decided 0 1 remove 0 0 | item known remove 0 0 | to k0 deliver 0 1 0 "7" | mark notice 0 | mark promise 0 1 0 "7"
+# The other client comes, whose home is gone.
+c0 append 0 0 5 | item taken 0 0 "5" | to s1b replicate 1 0 0 "5" | to q0 report 2
+q0 decided 1 2 cut 1 0 | item known cut 1 0 | to c1 ack 0 0 | mark confirm 0 1 0 "7"
+q0 decided 2 3 table 1 4 1:1 | item known table 1 4 1:1
+# The cut covers it before the backup has told of it, so that it is promised too.
+q0 decided 3 4 cut 1 1 | item known cut 1 1 | to c0 ack 0 1 | to k0 deliver 1 0 0 "5" | mark confirm 1 0 0 "5" | mark promise 1 0 0 "5"
+# This shard is not gone, and has no fate to tell.
+c1 ask 0 1
+now | 2 records, 2 durable, 4 known
+"#;
 
 /// The first shard goes with a record that is covered and one that is not.
-const GONE: &[Turn] = &[
-    (
-        "c0",
-        Append(0, 0, b"5"),
-        "item Taken { rec: Data { client: 0, number: 0, body: \"5\" } }\n\
-         send to s0b Replicate { local: 0, rec: Data { client: 0, number: 0, body: \"5\" } }\n\
-         send to q0 Report { len: 1 }\n",
-    ),
-    (
-        "s0b",
-        Replicated(1),
-        "send to k0 Deliver { local: 0, rec: Data { client: 0, number: 0, body: \"5\" } }\n\
-         mark Promise { position: 0, rec: Data { client: 0, number: 0, body: \"5\" } }\n",
-    ),
-    (
-        "q0",
-        Decided(0, 0, Value::Cut(0, 0)),
-        "item Known { entry: Cut { window: 0, round: 0 } }\n\
-         send to c0 Ack { number: 0, position: 0 }\n\
-         mark Confirm { position: 0, rec: Data { client: 0, number: 0, body: \"5\" } }\n",
-    ),
-    (
-        "c0",
-        Append(0, 1, b"9"),
-        "item Taken { rec: Data { client: 0, number: 1, body: \"9\" } }\n\
-         send to s0b Replicate { local: 1, rec: Data { client: 0, number: 1, body: \"9\" } }\n\
-         send to q0 Report { len: 2 }\n",
-    ),
-    ("c0", AskFate(0, 0), ""),
-    (
-        "q0",
-        Decided(1, 0, Value::Removal(0, 0)),
-        "item Known { entry: Remove { window: 0, shard: 0 } }\n\
-         mark Notice { first: 2 }\n",
-    ),
-    (
-        "c0",
-        AskFate(0, 0),
-        "send to c0 Ack { number: 0, position: 0 }\n",
-    ),
-    ("c0", AskFate(0, 1), "send to c0 Fate { next: 1 }\n"),
-    ("c1", AskFate(0, 0), "send to c1 Fate { next: 0 }\n"),
-    // It takes nothing any more, and what isn't covered has no position.
-    ("c0", Append(0, 2, b"1"), ""),
-    ("q0", Fill(9), ""),
-    ("s0b", Replicated(2), ""),
-    (
-        "k0",
-        Fetch(1),
-        "send to k0 Deliver { local: 1, rec: Data { client: 0, number: 1, body: \"9\" } }\n",
-    ),
-];
+const GONE: &str = r#"
+q0 decided 0 1 cut 0 0 | item known cut 0 0 | to c0 ack 0 0 | mark confirm 0 0 0 "5"
+c0 append 0 1 9 | item taken 0 1 "9" | to s0b replicate 1 0 1 "9" | to q0 report 2
+c0 ask 0 0
+q0 decided 1 2 remove 0 0 | item known remove 0 0 | mark notice 2
+c0 ask 0 0 | to c0 ack 0 0
+c0 ask 0 1 | to c0 fate 1
+c1 ask 0 0 | to c1 fate 0
+# It takes nothing any more, and what isn't covered has no position.
+c0 append 0 2 1
+q0 fill 9
+s0b replicated 2
+k0 fetch 1 | to k0 deliver 1 0 1 "9"
+now | 2 records, 2 durable, 2 known
+"#;
 
 /// It goes before its backup has the covered record.
-const LATE: &[Turn] = &[
-    (
-        "q0",
-        Decided(0, 0, Value::Cut(0, 0)),
-        "item Known { entry: Cut { window: 0, round: 0 } }\n",
-    ),
-    (
-        "q0",
-        Decided(1, 0, Value::Removal(0, 0)),
-        "item Known { entry: Remove { window: 0, shard: 0 } }\n\
-         mark Notice { first: 2 }\n",
-    ),
-    ("c0", AskFate(0, 0), ""),
-    (
-        "s0p",
-        Replicate(0, 0, b"5"),
-        "item Taken { rec: Data { client: 0, number: 0, body: \"5\" } }\n\
-         send to s0p Replicated { len: 1 }\n\
-         send to q0 Report { len: 1 }\n",
-    ),
-    (
-        "c0",
-        AskFate(0, 0),
-        "send to c0 Ack { number: 0, position: 0 }\n",
-    ),
-    ("c0", AskFate(0, 1), "send to c0 Fate { next: 1 }\n"),
-];
+const LATE: &str = r#"
+q0 decided 0 1 cut 0 0 | item known cut 0 0
+q0 decided 1 2 remove 0 0 | item known remove 0 0 | mark notice 2
+c0 ask 0 0
+s0p replicate 0 0 0 5 | item taken 0 0 "5" | to s0p replicated 1 | to q0 report 1
+c0 ask 0 0 | to c0 ack 0 0
+c0 ask 0 1 | to c0 fate 1
+now | 1 records, 1 durable, 2 known
+"#;
 
 pub(super) const LIVES: &[Life] = &[
-    Life {
-        name: "promises begin anew after a removal",
-        cluster: Cluster::Pair,
-        shard: 1,
-        side: Side::Primary,
-        stored: &[],
-        turns: LEFT,
-        counts: (2, 2, 4),
-    },
-    Life {
-        name: "a primary that is gone answers for its records",
-        cluster: Cluster::Pair,
-        shard: 0,
-        side: Side::Primary,
-        stored: &[],
-        turns: GONE,
-        counts: (2, 2, 2),
-    },
-    Life {
-        name: "a backup that is gone answers once it has the records",
-        cluster: Cluster::Pair,
-        shard: 0,
-        side: Side::Backup,
-        stored: &[],
-        turns: LATE,
-        counts: (1, 1, 2),
-    },
+    // Promises begin anew after a removal.
+    (PAIR, "s1p", &[], &[LEFT]),
+    // A primary that is gone answers for its records.
+    (PAIR, "s0p", &[], &[TAKEN, PROMISED, GONE]),
+    // A backup that is gone answers once it has the records.
+    (PAIR, "s0b", &[], &[LATE]),
 ];

@@ -1,260 +1,127 @@
 //! The smallest cluster: a record's way, filled places, and restarts.
 
-use super::{Cluster, Life, lived};
-use life_tables::Comes::*;
-use life_tables::{Turn, Value};
-use spec_base::Side;
+use super::Lived;
+use life_tables::clusters::SINGLE;
+use life_tables::{Life, lived};
 use std::alloc::{AllocError, Global};
 use std::fmt::Write;
 use std::test::Fail;
 
-/// The way of a record at its primary.
-const PRIMARY: &[Turn] = &[
-    (
-        "c0",
-        Append(0, 0, b"5"),
-        "item Taken { rec: Data { client: 0, number: 0, body: \"5\" } }\n\
-         send to s0b Replicate { local: 0, rec: Data { client: 0, number: 0, body: \"5\" } }\n\
-         send to q0 Report { len: 1 }\n",
-    ),
-    // It is there and not covered yet; another number leaves a gap.
-    ("c0", Append(0, 0, b"5"), ""),
-    ("c0", Append(0, 2, b"5"), ""),
-    ("k0", Fetch(0), ""),
-    // A client that the cluster doesn't have, a node of the wrong class, the node itself.
-    ("c1", Append(0, 0, b"5"), ""),
-    ("q0", Replicated(1), ""),
-    ("s0p", Replicate(1, 1, b"7"), ""),
-    (
-        "",
-        Tick,
-        "send to q0 Learn { slot: 0 }\n\
-         send to q0 Report { len: 1 }\n\
-         send to s0b Replicate { local: 0, rec: Data { client: 0, number: 0, body: \"5\" } }\n",
-    ),
-    (
-        "s0b",
-        Replicated(1),
-        "send to k0 Deliver { local: 0, rec: Data { client: 0, number: 0, body: \"5\" } }\n\
-         mark Promise { position: 0, rec: Data { client: 0, number: 0, body: \"5\" } }\n",
-    ),
-    ("s0b", Replicated(1), ""),
-    (
-        "k0",
-        Fetch(0),
-        "send to k0 Deliver { local: 0, rec: Data { client: 0, number: 0, body: \"5\" } }\n",
-    ),
-    ("k0", Fetch(1), ""),
-    // An entry that isn't the next one is asked for.
-    (
-        "q0",
-        Decided(1, 0, Value::Cut(0, 1)),
-        "send to q0 Learn { slot: 0 }\n",
-    ),
-    (
-        "q0",
-        Decided(0, 0, Value::Cut(0, 0)),
-        "item Known { entry: Cut { window: 0, round: 0 } }\n\
-         send to c0 Ack { number: 0, position: 0 }\n\
-         send to q0 Learn { slot: 1 }\n\
-         mark Confirm { position: 0, rec: Data { client: 0, number: 0, body: \"5\" } }\n",
-    ),
-    (
-        "c0",
-        Append(0, 0, b"5"),
-        "send to c0 Ack { number: 0, position: 0 }\n",
-    ),
-];
+/// A record comes to its primary.
+pub(super) const TAKEN: &str = r#"
+c0 append 0 0 5 | item taken 0 0 "5" | to s0b replicate 0 0 0 "5" | to q0 report 1
+"#;
 
-/// And at the backup.
-const BACKUP: &[Turn] = &[
-    (
-        "s0p",
-        Replicate(0, 0, b"5"),
-        "item Taken { rec: Data { client: 0, number: 0, body: \"5\" } }\n\
-         send to s0p Replicated { len: 1 }\n\
-         send to q0 Report { len: 1 }\n",
-    ),
-    // Neither an earlier local nor a later one is taken.
-    (
-        "s0p",
-        Replicate(0, 0, b"5"),
-        "send to s0p Replicated { len: 1 }\n",
-    ),
-    (
-        "s0p",
-        Replicate(2, 2, b"7"),
-        "send to s0p Replicated { len: 1 }\n",
-    ),
-    // What is a primary's does nothing.
-    ("c0", Append(0, 1, b"7"), ""),
-    ("q0", Fill(2), ""),
-    ("s0b", Replicated(1), ""),
-    (
-        "",
-        Tick,
-        "send to q0 Learn { slot: 0 }\nsend to q0 Report { len: 1 }\n",
-    ),
-    (
-        "q0",
-        Decided(0, 0, Value::Cut(0, 0)),
-        "item Known { entry: Cut { window: 0, round: 0 } }\n\
-         mark Confirm { position: 0, rec: Data { client: 0, number: 0, body: \"5\" } }\n",
-    ),
-    (
-        "k0",
-        Fetch(0),
-        "send to k0 Deliver { local: 0, rec: Data { client: 0, number: 0, body: \"5\" } }\n",
-    ),
-    ("k0", Fetch(1), ""),
-    ("", Restart, ""),
-    (
-        "",
-        Tick,
-        "send to q0 Learn { slot: 1 }\nsend to q0 Report { len: 1 }\n",
-    ),
-];
+/// The backup has it.
+pub(super) const PROMISED: &str = r#"
+s0b replicated 1 | to k0 deliver 0 0 0 "5" | mark promise 0 0 0 "5"
+"#;
+
+/// What comes between the two.
+const WAITS: &str = r#"
+# It is there and not covered yet; another number leaves a gap.
+c0 append 0 0 5
+c0 append 0 2 5
+k0 fetch 0
+# A client that the cluster doesn't have, a node of the wrong class, the node itself.
+c1 append 0 0 5
+q0 replicated 1
+s0p replicate 1 0 1 7
+tick | to q0 learn 0 | to q0 report 1 | to s0b replicate 0 0 0 "5"
+"#;
+
+/// And after them.
+const COVERED: &str = r#"
+s0b replicated 1
+k0 fetch 0 | to k0 deliver 0 0 0 "5"
+k0 fetch 1
+# An entry that isn't the next one is asked for.
+q0 decided 1 2 cut 0 1 | to q0 learn 0
+q0 decided 0 1 cut 0 0 | item known cut 0 0 | to c0 ack 0 0 | to q0 learn 1 | mark confirm 0 0 0 "5"
+c0 append 0 0 5 | to c0 ack 0 0
+now | 1 records, 1 durable, 1 known
+"#;
+
+/// The way of a record at the backup.
+const BACKUP: &str = r#"
+s0p replicate 0 0 0 5 | item taken 0 0 "5" | to s0p replicated 1 | to q0 report 1
+# Neither an earlier local nor a later one is taken.
+s0p replicate 0 0 0 5 | to s0p replicated 1
+s0p replicate 2 0 2 7 | to s0p replicated 1
+# What is a primary's does nothing.
+c0 append 0 1 7
+q0 fill 2
+s0b replicated 1
+tick | to q0 learn 0 | to q0 report 1
+q0 decided 0 1 cut 0 0 | item known cut 0 0 | mark confirm 0 0 0 "5"
+k0 fetch 0 | to k0 deliver 0 0 0 "5"
+k0 fetch 1
+restart
+tick | to q0 learn 1 | to q0 report 1
+now | 1 records, 1 durable, 1 known
+"#;
 
 /// What the first 64 of the wanted places bring.
 fn filled(alloc: Global) -> Result<String, AllocError> {
-    let mut text = String::from_str(alloc, "item Noops { count: 64 }\n")?;
+    let mut text = String::from_str(alloc, "q0 fill 100 | item noops 64")?;
     for local in 0..64 {
-        writeln!(
-            text,
-            "send to s0b Replicate {{ local: {local}, rec: Noop }}"
-        )?;
+        write!(text, " | to s0b replicate {local} noop")?;
     }
-    text.push_str("send to q0 Report { len: 64 }\n")?;
+    text.push_str(" | to q0 report 64\nnow | 64 records, 0 durable, 0 known\n")?;
     Ok(text)
 }
 
 #[test]
 fn places_are_filled_64_at_once(rt: HostRuntime) -> Result<(), Fail> {
-    let want = filled(rt.alloc())?;
-    let life = Life {
-        name: "64 places at once",
-        cluster: Cluster::Single,
-        shard: 0,
-        side: Side::Primary,
-        stored: &[],
-        turns: &[("q0", Fill(100), want.as_str())],
-        counts: (64, 0, 0),
-    };
-    assert_eq!(rt; lived(&rt, rt.alloc(), &life)?, life.counts);
+    let text = filled(rt.alloc())?;
+    let parts = [text.as_str()];
+    let (told, text) = lived::<Lived>(rt.alloc(), &(SINGLE, "s0p", &[], &parts))?;
+    assert_eq!(rt; told, text);
     Ok(())
 }
 
 /// Two more places are filled; the backup has all of them then, and two have a position.
-const FILLS: &[Turn] = &[
-    (
-        "q0",
-        Fill(66),
-        "item Noops { count: 2 }\n\
-         send to s0b Replicate { local: 64, rec: Noop }\n\
-         send to s0b Replicate { local: 65, rec: Noop }\n\
-         send to q0 Report { len: 66 }\n",
-    ),
-    ("q0", Fill(66), ""),
-    (
-        "",
-        Tick,
-        "send to q0 Learn { slot: 0 }\n\
-         send to q0 Report { len: 66 }\n\
-         send to s0b Replicate { local: 0, rec: Noop }\n\
-         send to s0b Replicate { local: 1, rec: Noop }\n\
-         send to s0b Replicate { local: 2, rec: Noop }\n\
-         send to s0b Replicate { local: 3, rec: Noop }\n\
-         send to s0b Replicate { local: 4, rec: Noop }\n\
-         send to s0b Replicate { local: 5, rec: Noop }\n\
-         send to s0b Replicate { local: 6, rec: Noop }\n\
-         send to s0b Replicate { local: 7, rec: Noop }\n",
-    ),
-    (
-        "s0b",
-        Replicated(200),
-        "send to k0 Deliver { local: 0, rec: Noop }\n\
-         send to k0 Deliver { local: 1, rec: Noop }\n\
-         mark Promise { position: 0, rec: Noop }\n\
-         mark Promise { position: 1, rec: Noop }\n",
-    ),
-    (
-        "",
-        Tick,
-        "send to q0 Learn { slot: 0 }\nsend to q0 Report { len: 66 }\n",
-    ),
-];
+const FILLS: &str = r#"
+q0 fill 66 | item noops 2 | to s0b replicate 64 noop | to s0b replicate 65 noop | to q0 report 66
+q0 fill 66
+tick | to q0 learn 0 | to q0 report 66 | to s0b replicate 0 noop | to s0b replicate 1 noop | to s0b replicate 2 noop
+  | to s0b replicate 3 noop | to s0b replicate 4 noop | to s0b replicate 5 noop | to s0b replicate 6 noop | to s0b replicate 7 noop
+s0b replicated 200 | to k0 deliver 0 noop | to k0 deliver 1 noop | mark promise 0 noop | mark promise 1 noop
+tick | to q0 learn 0 | to q0 report 66
+now | 66 records, 66 durable, 0 known
+"#;
+
+/// The first place is covered, and the second is promised.
+const BEFORE: &str = r#"
+k0 fetch 0 | to k0 deliver 0 noop
+k0 fetch 1
+s0b replicated 2 | to k0 deliver 1 noop | mark promise 1 noop
+k0 fetch 1 | to k0 deliver 1 noop
+"#;
 
 /// What is past the covered place is durable no longer after a restart, and promised once more.
-const RESTARTS: &[Turn] = &[
-    (
-        "k0",
-        Fetch(0),
-        "send to k0 Deliver { local: 0, rec: Noop }\n",
-    ),
-    ("k0", Fetch(1), ""),
-    (
-        "s0b",
-        Replicated(2),
-        "send to k0 Deliver { local: 1, rec: Noop }\n\
-         mark Promise { position: 1, rec: Noop }\n",
-    ),
-    (
-        "k0",
-        Fetch(1),
-        "send to k0 Deliver { local: 1, rec: Noop }\n",
-    ),
-    ("", Restart, ""),
-    (
-        "k0",
-        Fetch(0),
-        "send to k0 Deliver { local: 0, rec: Noop }\n",
-    ),
-    ("k0", Fetch(1), ""),
-    (
-        "s0b",
-        Replicated(2),
-        "send to k0 Deliver { local: 1, rec: Noop }\n\
-         mark Promise { position: 1, rec: Noop }\n",
-    ),
-];
+const RESTARTS: &str = r#"
+restart
+k0 fetch 0 | to k0 deliver 0 noop
+k0 fetch 1
+s0b replicated 2 | to k0 deliver 1 noop | mark promise 1 noop
+now | 2 records, 2 durable, 1 known
+"#;
 
 pub(super) const LIVES: &[Life] = &[
-    Life {
-        name: "a primary takes promises and confirms",
-        cluster: Cluster::Single,
-        shard: 0,
-        side: Side::Primary,
-        stored: &[],
-        turns: PRIMARY,
-        counts: (1, 1, 1),
-    },
-    Life {
-        name: "a backup copies and confirms",
-        cluster: Cluster::Single,
-        shard: 0,
-        side: Side::Backup,
-        stored: &[],
-        turns: BACKUP,
-        counts: (1, 1, 1),
-    },
-    Life {
-        name: "places are sent again by 8",
-        cluster: Cluster::Single,
-        shard: 0,
-        side: Side::Primary,
-        // 64 filled places.
-        stored: &[5, 64],
-        turns: FILLS,
-        counts: (66, 66, 0),
-    },
-    Life {
-        name: "a restart keeps what is stored",
-        cluster: Cluster::Single,
-        shard: 0,
-        side: Side::Primary,
-        // Two filled places, and the first cut.
-        stored: &[5, 2, 3, 1, 0, 0, 0, 0, 0, 0],
-        turns: RESTARTS,
-        counts: (2, 2, 1),
-    },
+    // A primary takes promises and confirms.
+    (SINGLE, "s0p", &[], &[TAKEN, WAITS, PROMISED, COVERED]),
+    // A backup copies and confirms.
+    (SINGLE, "s0b", &[], &[BACKUP]),
+    // Places are sent again by 8.
+    // 64 filled places.
+    (SINGLE, "s0p", &[5, 64], &[FILLS]),
+    // A restart keeps what is stored.
+    // Two filled places, and the first cut.
+    (
+        SINGLE,
+        "s0p",
+        &[5, 2, 3, 1, 0, 0, 0, 0, 0, 0],
+        &[BEFORE, RESTARTS],
+    ),
 ];

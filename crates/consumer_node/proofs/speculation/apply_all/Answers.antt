@@ -1,12 +1,11 @@
-use Rattle.std.proofs.Common.{◌≡◌, ◌+◌, ◌++◌, ◌∷◌, [], Option, Some, None, length, length-append, ap, sym, subst, ◌∙◌, arith}
-use Rattle.node_rules.specs.Names.{Record}
+use Rattle.std.proofs.Common.{◌≡◌, ◌∷◌, [], Some, None, length, length-append, ap, sym, subst, ◌∙◌, arith}
 use Rattle.node_rules.specs.Nodes.{agreed_by}
 use Rattle.node_rules.specs.Turns.{Turn, turn_of}
 use Rattle.consumer_node.specs.States.{ConsumerState, applied_of}
 use Rattle.consumer_node.specs.Speculation.{apply_all}
 use Rattle.consumer_node.specs.Sound.{held_for, IsConsumer}
 use Rattle.consumer_node.proofs.Loops.{apply-next, apply-none}
-use Rattle.consumer_node.proofs.Reacting.{applied_sound, applied_room}
+use Rattle.consumer_node.proofs.Lives.{applied_sound, applied_room}
 use Rattle.consumer_node.proofs.speculation.apply_all.Goals as goal
 
 pub apply-requires : goal.apply-requires

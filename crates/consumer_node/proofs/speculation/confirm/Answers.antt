@@ -3,7 +3,7 @@ use Rattle.cut_core.specs.Map.{located}
 use Rattle.node_rules.specs.Nodes.{agreed_by}
 use Rattle.consumer_node.specs.Apps.{meaning}
 use Rattle.consumer_node.proofs.Loops.{on-ok}
-use Rattle.consumer_node.proofs.Reacting.{confirmed_sound, oldest_valid}
+use Rattle.consumer_node.proofs.Lives.{confirmed_sound, oldest_valid}
 use Rattle.consumer_node.proofs.speculation.confirm.Goals as goal
 
 pub show_confirmed-requires : goal.show_confirmed-requires

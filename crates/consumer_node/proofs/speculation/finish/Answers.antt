@@ -1,4 +1,4 @@
-use Rattle.std.proofs.Common.{◌≡◌, List, ap, sym, subst, ◌∙◌}
+use Rattle.std.proofs.Common.{ap, sym, subst, ◌∙◌}
 use Rattle.msg_wire.specs.Valid.{AreValidItems}
 use Rattle.node_rules.specs.Turns.{Turn, turn_of}
 use Rattle.consumer_node.specs.States.{ConsumerState}

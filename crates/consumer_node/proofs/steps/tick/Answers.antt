@@ -9,7 +9,7 @@ use Rattle.consumer_node.specs.States.{ConsumerState}
 use Rattle.consumer_node.specs.Speculation.{finish}
 use Rattle.consumer_node.specs.Steps.{handle}
 use Rattle.consumer_node.specs.Sound.{IsConsumer}
-use Rattle.consumer_node.proofs.Reacting.{kept_handle, stable_handle}
+use Rattle.consumer_node.proofs.Lives.{kept_handle, stable_handle}
 use Rattle.consumer_node.proofs.steps.tick.Goals as goal
 
 pub finish-requires : goal.finish-requires

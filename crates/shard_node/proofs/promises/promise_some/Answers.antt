@@ -2,7 +2,7 @@ use Rattle.std.proofs.Common.{◌+◌, ap, sym, ◌∙◌}
 use Rattle.node_rules.specs.Turns.{Turn, turn_of, own_of, put_own}
 use Rattle.shard_node.specs.States.{ReplicaState, with_promised}
 use Rattle.shard_node.specs.Promises.{promise_some}
-use Rattle.shard_node.proofs.Promising.{promise_more}
+use Rattle.shard_node.proofs.Loops.{promise_more}
 use Rattle.shard_node.proofs.promises.promise_some.Goals as goal
 
 pub loop-replica-preserved : goal.loop-replica-preserved

@@ -1,12 +1,6 @@
-use Rattle.std.proofs.Common.{◌∙◌, ap}
 use Rattle.node_rules.specs.Names.nodes
-use Rattle.node_rules.specs.Turns.{turn_of, send}
-use Rattle.node_rules.proofs.SendLemmas.{send_more}
+use Rattle.node_rules.proofs.SendLemmas.{sent_next, numbers_more}
 use Rattle.node_rules.proofs.node.Node.send_to_consumers.Goals as goal
 
 pub loop-number-preserved : goal.loop-number-preserved
-loop-number-preserved g c =
-    let what = c.args.what.now in
-    let self = c.args.self.now in
-    let n = c.loop-number.number in
-    c.in_ok-send_copy.ensures ∙ (ap (send (nodes.Consumer n) what) c.loop-number.invariant ∙ send_more nodes.Consumer n what (turn_of self c.args.out.now))
+loop-number-preserved g c = sent_next _ _ _ c.args.what.now _ _ _ c.in_ok-send_copy.ensures c.loop-number.invariant (numbers_more nodes.Consumer c.loop-number.number)

@@ -1,6 +1,0 @@
-ghost use Rattle.shard_node.specs.Rows.{Rows};
-
-/// The worked rows of `specs/Rows.antt`: what the step table gives in each.
-pub fn rows_compute()
-    ensures { Rows }
-{}
