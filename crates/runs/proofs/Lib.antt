@@ -1,7 +1,12 @@
 pub mod InPlace
 pub mod SameNodes
+pub mod Shown
+pub mod Unnoticed
 pub mod Clashes
 pub mod Refusals
+pub mod PassRefusals
+pub mod WorkedRuns
 pub mod ConsumerLaws
 pub mod FirstRun
 pub mod Restarts
+pub mod MergedJournals

@@ -1,12 +1,9 @@
 -- The events of a run are valid, and each kind of node restarts in place.
-use Rattle.std.proofs.Common.{◌≡◌, ◌&&◌, Bool, true, false, List, [], ◌∷◌, refl, ap, ◌∙◌}
-use Rattle.std.specs.Prelude.{if◌then◌else◌}
+use Rattle.std.proofs.Common.{Bool, true, false, List, [], ◌∷◌}
 use Rattle.std.specs.List.{AllByRecursion}
 use Rattle.msg_wire.specs.Nodes.{same_node}
 use Rattle.msg_wire.specs.Valid.{IsValidConfig, IsNodeOf, IsValidEvent}
 use Rattle.net_model.specs.Pasts.{Past}
-use Rattle.node_rules.specs.Turns.{Turn}
-use Rattle.seq_node.specs.States.{SequencerState}
 use Rattle.seq_node.specs.Steps.{sequencer_step}
 use Rattle.seq_node.specs.Restart as sequencer
 use Rattle.seq_node.proofs.Lives.{restart_is_the_items as sequencer_restarts}
@@ -26,7 +23,8 @@ use Rattle.runs.proofs.InPlace.{with_event, events_of, RestartsInPlace}
 
 -- ---- a run's events are valid
 
-valid_if : (own : Bool) (event : Event) (taken : List Event) → IsValidEvent event → AllByRecursion IsValidEvent taken → AllByRecursion IsValidEvent (with_event own event taken)
+valid_if : (own : Bool) (event : Event) (taken : List Event) → IsValidEvent event → AllByRecursion IsValidEvent taken
+    → AllByRecursion IsValidEvent (with_event own event taken)
 valid_if true event taken here before = (here, before)
 valid_if false event taken here before = before
 
@@ -36,19 +34,17 @@ events_valid cfg node (e ∷ past) run = valid_if (same_node e.node node) e.even
 
 -- ---- each kind restarts in place
 
-unless_never : {A : Type 0} → (b : Bool) (x y : A) → (if b && false then x else y) ≡ y
-unless_never true x y = refl
-unless_never false x y = refl
+pub sequencer_in_place : (cfg : Config) (node : NodeId) → IsValidConfig cfg → IsNodeOf cfg node
+    → RestartsInPlace sequencer_step (sequencer.fresh_node cfg node) (sequencer.restart_of cfg node)
+sequencer_in_place cfg node valid here taken each = sequencer_restarts cfg node taken valid here each
 
-pub sequencer_in_place : (cfg : Config) (node : NodeId) → IsValidConfig cfg → IsNodeOf cfg node → RestartsInPlace sequencer_step (sequencer.fresh_node cfg node) (sequencer.restart_of cfg node)
-sequencer_in_place cfg node valid here taken each =
-    ap (λ (t : Turn SequencerState). t.state) (unless_never _ _ _) ∙ sequencer_restarts cfg node taken valid here each
-
-pub replica_in_place : (cfg : Config) (node : NodeId) → IsValidConfig cfg → IsNodeOf cfg node → RestartsInPlace replica_step (replica.fresh_node cfg node) (replica.restart_of cfg node)
+pub replica_in_place : (cfg : Config) (node : NodeId) → IsValidConfig cfg → IsNodeOf cfg node
+    → RestartsInPlace replica_step (replica.fresh_node cfg node) (replica.restart_of cfg node)
 replica_in_place cfg node valid here taken each = replica_restarts cfg node taken valid here each
 
 pub client_in_place : (cfg : Config) (node : NodeId) → RestartsInPlace client_step (client.fresh_node cfg node) (client.restart_of cfg node)
 client_in_place cfg node taken each = restart-items cfg node taken each
 
-pub consumer_in_place : (cfg : Config) (node : NodeId) → IsValidConfig cfg → IsNodeOf cfg node → RestartsInPlace (consumer_step any_meaning) (consumer.fresh_node any_meaning cfg node) (consumer.restart_of any_meaning cfg node)
+pub consumer_in_place : (cfg : Config) (node : NodeId) → IsValidConfig cfg → IsNodeOf cfg node
+    → RestartsInPlace (consumer_step any_meaning) (consumer.fresh_node any_meaning cfg node) (consumer.restart_of any_meaning cfg node)
 consumer_in_place cfg node valid here taken each = consumer_restarts cfg node taken valid here each

@@ -1,14 +1,16 @@
--- Short histories, each of which breaks one sentence of a law. The newest entry is first.
-use Rattle.std.specs.Prelude.{List, ℕ, [], ◌∷◌}
+-- Short histories, each of which breaks one sentence of a law of safety, and keeps the others. The newest entry is first.
+use Rattle.std.specs.Prelude.{[], ◌∷◌}
 use Rattle.net_model.specs.Pasts.{Past}
 use Rattle.node_rules.specs.Examples.{single, pair, trio, q0, q1, s0p, s0b, c0, k0, five, seven, comes}
 use Rattle.node_rules.specs.Examples as examples
-use Rattle.runs.specs.Names.{NodeId, Config, Event, Mark, HistoryEntry}
+use Rattle.runs.specs.Names.{HistoryEntry}
 use Rattle.runs.specs.Names.entries
 use Rattle.runs.specs.Names.events
 use Rattle.runs.specs.Names.commands
 use Rattle.runs.specs.Names.marks
 use Rattle.runs.specs.Names.whats
+use Rattle.runs.specs.BrokenEntries.{shows, does, submits, five_out, promised, learns_first, is_handed_five, filling}
+use Rattle.runs.specs.BrokenEntries.{triple, append, replicate, replicate_other, two_held}
 use Rattle.runs.specs.Runs.{IsPastOf}
 use Rattle.runs.specs.OneLog.{IsOneLog}
 use Rattle.runs.specs.Truth.{IsTruthful}
@@ -18,30 +20,22 @@ use Rattle.runs.specs.Undos.{StateFollowsApplied}
 use Rattle.runs.specs.Cuts.{CutsAreTrue}
 use Rattle.runs.specs.Eagerness.{IsEager}
 
--- a tick at which a node shows this
-abbrev shows : NodeId → List Mark → HistoryEntry
-shows node shown = record { node = node; event = events.Tick; sends = []; marks = shown }
-
--- a step that sends nothing
-abbrev does : NodeId → Event → List Mark → HistoryEntry
-does node event shown = record { node = node; event = event; sends = []; marks = shown }
-
-abbrev submits : List ℕ → HistoryEntry
-submits body = does c0 (events.Submit 0 body) []
-
--- what Tally writes for a first record with the digit 5
-abbrev five_out : Mark
-five_out = marks.Out (53 ∷ 10 ∷ [])
-
 -- ---- runs
 
--- a message that nobody sent
+-- a message that nobody sent; it is of a number that has no acknowledgement to come, so nothing follows
 abbrev pub unsent : Past
-unsent = does s0p (comes c0 s0p (whats.Append 0 0 [])) [] ∷ []
+unsent = does c0 (comes s0p c0 (whats.Ack 1 0)) [] ∷ []
 
 -- a position is told that no known window gives: the window of 2 rounds has the positions 0 and 1
 abbrev pub unleased : Past
-unleased = shows s0p (marks.Promise 2 five ∷ []) ∷ []
+unleased =
+    record {
+      node = s0p;
+      event = events.Tick;
+      sends = examples.sent s0p q0 (whats.Learn 0) ∷ examples.sent s0p q0 (whats.Report 0) ∷ [];
+      marks = marks.Promise 2 five ∷ [];
+    }
+    ∷ []
 
 -- the client's message is not sent
 abbrev pub silent : Past
@@ -97,15 +91,15 @@ acked_early = shows s0p (marks.Confirm 0 five ∷ []) ∷ shows c0 (marks.Ack 0 
 -- ---- speculation
 
 abbrev pub broken_promise : Past
-broken_promise = shows k0 (marks.Confirm 0 seven ∷ []) ∷ shows s0p (marks.Promise 0 five ∷ []) ∷ []
+broken_promise = shows k0 (marks.Confirm 0 seven ∷ []) ∷ promised ∷ []
 
 -- the removal is noticed, but only after the other record was confirmed
 abbrev pub noticed_late : Past
-noticed_late = shows k0 (marks.Confirm 0 seven ∷ marks.Notice 0 ∷ []) ∷ shows s0p (marks.Promise 0 five ∷ []) ∷ []
+noticed_late = learns_first (entries.Remove 0 0) (marks.Confirm 0 seven ∷ marks.Notice 0 ∷ []) ∷ promised ∷ []
 
 -- the removal moves later positions alone
 abbrev pub noticed_above : Past
-noticed_above = shows k0 (marks.Notice 1 ∷ marks.Confirm 0 seven ∷ []) ∷ shows s0p (marks.Promise 0 five ∷ []) ∷ []
+noticed_above = learns_first (entries.Remove 0 1) (marks.Notice 1 ∷ marks.Confirm 0 seven ∷ []) ∷ promised ∷ []
 
 -- nothing was removed
 abbrev pub false_alarm : Past
@@ -113,26 +107,27 @@ false_alarm = shows k0 (marks.Notice 0 ∷ []) ∷ []
 
 -- shard 1 is removed, whose first position is 1; the base of the window is named
 abbrev pub base_named : Past
-base_named = does k0 (comes q0 k0 (whats.Decided 0 1 (entries.Remove 0 1))) (marks.Notice 0 ∷ []) ∷ []
+base_named = learns_first (entries.Remove 0 1) (marks.Notice 0 ∷ []) ∷ []
 
 -- ---- outputs
 
 abbrev pub applied_past_end : Past
 applied_past_end = shows k0 (marks.Apply 1 five ∷ []) ∷ []
 
+-- the record is handed and covered, and shown as confirmed alone
 abbrev pub confirmed_unapplied : Past
-confirmed_unapplied = shows k0 (marks.Confirm 0 five ∷ five_out ∷ []) ∷ []
+confirmed_unapplied = learns_first (entries.Cut 0 0) (marks.Confirm 0 five ∷ five_out ∷ []) ∷ is_handed_five [] ∷ []
 
 -- the output goes out as the record is applied
 abbrev pub output_when_applied : Past
 output_when_applied = shows k0 (marks.Apply 0 five ∷ five_out ∷ []) ∷ []
 
 abbrev pub output_missing : Past
-output_missing = shows k0 (marks.Apply 0 five ∷ marks.Confirm 0 five ∷ []) ∷ []
+output_missing = learns_first (entries.Cut 0 0) (marks.Confirm 0 five ∷ []) ∷ is_handed_five (marks.Apply 0 five ∷ []) ∷ []
 
 -- a tick stores nothing
 abbrev pub confirmed_unstored : Past
-confirmed_unstored = shows k0 (marks.Apply 0 five ∷ marks.Confirm 0 five ∷ five_out ∷ []) ∷ []
+confirmed_unstored = shows k0 (marks.Apply 0 filling ∷ marks.Confirm 0 filling ∷ []) ∷ []
 
 -- ---- states and undos
 
@@ -141,14 +136,14 @@ abbrev pub state_behind : Past
 state_behind = shows k0 (marks.Apply 0 five ∷ []) ∷ []
 
 abbrev pub undone_unnoticed : Past
-undone_unnoticed = shows k0 (marks.Undo 0 ∷ []) ∷ shows k0 (marks.Apply 0 five ∷ []) ∷ []
+undone_unnoticed = shows k0 (marks.Undo 0 ∷ []) ∷ shows k0 (marks.Apply 0 filling ∷ []) ∷ []
 
 -- the undo goes below the first failed position
 abbrev pub undone_too_far : Past
-undone_too_far = shows k0 (marks.Notice 1 ∷ marks.Undo 0 ∷ []) ∷ shows k0 (marks.Apply 0 five ∷ marks.Apply 1 seven ∷ []) ∷ []
+undone_too_far = shows k0 (marks.Notice 1 ∷ marks.Undo 0 ∷ []) ∷ shows k0 (marks.Apply 0 filling ∷ marks.Apply 1 filling ∷ []) ∷ []
 
 abbrev pub not_undone : Past
-not_undone = shows k0 (marks.Notice 0 ∷ []) ∷ shows k0 (marks.Apply 0 five ∷ []) ∷ []
+not_undone = shows k0 (marks.Notice 0 ∷ []) ∷ shows k0 (marks.Apply 0 filling ∷ []) ∷ []
 
 -- an undo of nothing
 abbrev pub undone_for_nothing : Past
@@ -156,20 +151,9 @@ undone_for_nothing = shows k0 (marks.Notice 0 ∷ marks.Undo 0 ∷ []) ∷ []
 
 -- a restart takes back what is confirmed
 abbrev pub confirmed_undone : Past
-confirmed_undone = does k0 events.Restart (marks.Undo 0 ∷ []) ∷ shows k0 (marks.Apply 0 five ∷ marks.Confirm 0 five ∷ five_out ∷ []) ∷ []
+confirmed_undone = does k0 events.Restart (marks.Undo 0 ∷ []) ∷ shows k0 (marks.Apply 0 filling ∷ marks.Confirm 0 filling ∷ []) ∷ []
 
 -- ---- cuts
-
--- three sequencers and one shard
-abbrev pub triple : Config
-triple = record single { seqs = 3 }
-
--- the primary holds the record, and then the backup too
-abbrev pub append : HistoryEntry
-append = does s0p (comes c0 s0p (whats.Append 0 0 (53 ∷ []))) []
-
-abbrev pub replicate : HistoryEntry
-replicate = does s0b (comes s0p s0b (whats.Replicate 0 five)) []
 
 -- sequencer 1 accepts a cut of the first round, or of the second one
 abbrev pub accept_early : HistoryEntry
@@ -187,9 +171,6 @@ abbrev pub lag_skipped : Past
 lag_skipped = accept_early ∷ replicate ∷ append ∷ []
 
 -- the replicas hold different records
-abbrev pub replicate_other : HistoryEntry
-replicate_other = does s0b (comes s0p s0b (whats.Replicate 0 seven)) []
-
 abbrev pub logs_apart : Past
 logs_apart = accept_early ∷ replicate_other ∷ append ∷ []
 
@@ -198,17 +179,17 @@ abbrev pub accept_later : HistoryEntry
 accept_later = does q1 (comes q0 q1 (whats.Accept 1 0 (entries.Cut 0 0))) []
 
 abbrev pub cut_after_nothing : Past
-cut_after_nothing = accept_later ∷ []
+cut_after_nothing = accept_later ∷ replicate ∷ append ∷ []
 
 -- the second round comes before the first
 abbrev pub cut_of_other_round : Past
-cut_of_other_round = accept_other ∷ []
+cut_of_other_round = accept_other ∷ two_held
 
 -- ---- eagerness
 
 -- the first record is handed to the consumer, which doesn't apply it
 abbrev pub not_applied : Past
-not_applied = does k0 (comes s0p k0 (whats.Deliver 0 five)) [] ∷ []
+not_applied = is_handed_five [] ∷ []
 
 -- it applies what it wasn't handed
 abbrev pub made_up : Past
@@ -241,8 +222,8 @@ pub record Refused : Type 0 where
   pub ack_before_its_record : ¬ IsTruthful acked_early
   -- speculation
   pub other_record_confirmed : ¬ SpeculationHolds single broken_promise
-  pub notice_after_the_record : ¬ SpeculationHolds single noticed_late
-  pub notice_of_later_positions : ¬ SpeculationHolds single noticed_above
+  pub notice_after_the_record : ¬ SpeculationHolds pair noticed_late
+  pub notice_of_later_positions : ¬ SpeculationHolds pair noticed_above
   pub notice_without_removal : ¬ SpeculationHolds single false_alarm
   pub notice_of_another_position : ¬ SpeculationHolds pair base_named
   -- outputs

@@ -1,37 +1,17 @@
--- Which entries are chosen, and that an accepted cut covers what both replicas hold.
-use Rattle.std.specs.Prelude.{◌≡◌, ℕ, ◌+◌, ◌*◌, ◌≤◌, List, ◌∷◌, length, take, slice_get, All, Contains, Some, None}
+-- An accepted cut covers what both replicas hold.
+use Rattle.std.specs.Prelude.{◌≡◌, ℕ, ◌≤◌, List, length, take, None}
 use Rattle.std.specs.List.{AllByRecursion}
 use Rattle.fix_ante.specs.declared.spots.Spot.{Spot}
+use Rattle.fix_ante.specs.Windows.{round_end}
 use Rattle.cut_core.specs.Reasons.{fault_of}
-use Rattle.majority.specs.Ballots.{IsMajority}
 use Rattle.net_model.specs.Pasts.{Past, Throughout}
 use Rattle.runs.specs.Names.{Config, Entry, Item}
-use Rattle.runs.specs.Names.nodes
 use Rattle.runs.specs.Names.sides
 use Rattle.runs.specs.Names.entries
 use Rattle.runs.specs.Names.items
-use Rattle.runs.specs.Kinds.{items_at, step_at}
+use Rattle.runs.specs.Kinds.{step_at}
+use Rattle.runs.specs.Chosen.{AreChosen}
 use Rattle.runs.specs.Known.{agreed_after, log_at}
-
--- ---- chosen entries
-
--- a sequencer accepted the entry at the slot and the ballot
-abbrev pub HasAccepted : Config → Past → ℕ → ℕ → Entry → ℕ → Type 0
-HasAccepted cfg past slot ballot entry number = Contains (items_at cfg (nodes.Seq number) past) (items.Accepted slot ballot entry)
-
--- a majority of the sequencers accepted the entry at the slot, at one ballot
-abbrev pub IsChosen : Config → Past → ℕ → Entry → Type 0
-IsChosen cfg past slot entry = (ballot : ℕ) × (voters : List ℕ) × IsMajority cfg.seqs voters × All (HasAccepted cfg past slot ballot entry) voters
-
--- each of the entries is chosen at its place, from slot 0 on
-abbrev pub AreChosen : Config → Past → List Entry → Type 0
-AreChosen cfg past chosen = (slot : ℕ) (entry : Entry) → slice_get chosen slot ≡ Some entry → IsChosen cfg past slot entry
-
--- ---- cuts
-
--- how many locals of a row's shard stand up to the end of a round
-abbrev pub round_end : Spot → ℕ → ℕ
-round_end row round = row.start + (round + 1) * row.quota
 
 -- both replicas hold these, and they hold the same
 pub record HoldRound (cfg : Config) (past : Past) (round : ℕ) (row : Spot) : Type 0 where

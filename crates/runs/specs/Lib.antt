@@ -1,6 +1,7 @@
 pub mod Names
 pub mod Kinds
 pub mod Runs
+pub mod Journals
 pub mod Marks
 pub mod Known
 pub mod OneLog
@@ -10,7 +11,16 @@ pub mod Outputs
 pub mod Undos
 pub mod Safety
 pub mod Views
+pub mod Chosen
 pub mod Cuts
+pub mod Agreement
+pub mod Logs
+pub mod Homes
+pub mod Maps
+pub mod Consumers
 pub mod Eagerness
+pub mod BrokenEntries
 pub mod Broken
+pub mod BrokenPasses
 pub mod FirstSteps
+pub mod WorkedRuns

@@ -1,13 +1,14 @@
--- Speculation holds but for noticed removals.
+-- Speculation holds and agrees, but for noticed removals.
 use Rattle.std.specs.Prelude.{◌≡◌, ◌⊎◌, ℕ, ◌≤◌, List, [], ◌∷◌, ◌++◌, Contains}
 use Rattle.std.specs.List.{AllByRecursion}
 use Rattle.cut_core.specs.declared.effects.Effect.TheVariants.{Removed}
 use Rattle.cut_core.specs.Effects.{effect_of}
-use Rattle.net_model.specs.Pasts.{Past, Throughout, marks_of}
+use Rattle.net_model.specs.Pasts.{Past, Throughout, shown, marks_of}
 use Rattle.runs.specs.Names.{NodeId, Config, Entry, Record, Mark, HistoryEntry}
 use Rattle.runs.specs.Names.marks
-use Rattle.runs.specs.Marks.{EachAfter, IsSpeculated}
+use Rattle.runs.specs.Marks.{IsPrefix, EachAfter, IsConfirmed, IsSpeculated}
 use Rattle.runs.specs.Known.{known_at, agreed_at}
+use Rattle.runs.specs.OneLog.{IsOneLog}
 
 -- the marks have a notice of a removal whose first failed position is at or below this one
 abbrev pub HasNoticed : List Mark → ℕ → Type 0
@@ -34,3 +35,39 @@ NoticesAreTrue cfg past e = AllByRecursion (IsTrueNotice cfg past e) e.marks
 pub record SpeculationHolds (cfg : Config) (past : Past) : Type 0 where
   pub as_speculated : (node : NodeId) → EachAfter (IsAsSpeculated past) [] (marks_of node past)
   pub notices_are_true : Throughout (NoticesAreTrue cfg) past
+
+-- ---- two speculations
+
+-- a node showed a mark after these earlier ones of its own
+abbrev pub ShowsAfter : Past → NodeId → List Mark → Mark → Type 0
+ShowsAfter past node earlier mark = IsPrefix (earlier ++ mark ∷ []) (marks_of node past)
+
+-- it applied this record at this position, or told it as its position
+abbrev pub SpeculatesAfter : Past → NodeId → List Mark → ℕ → Record → Type 0
+SpeculatesAfter past node earlier position rec =
+    ShowsAfter past node earlier (marks.Apply position rec) ⊎ ShowsAfter past node earlier (marks.Promise position rec)
+
+-- two nodes, or one node twice, speculated one record at a position, or one of the two noticed a removal before
+abbrev pub SpeculationAgrees : Past → Type 0
+SpeculationAgrees past =
+    (node another : NodeId) (earlier before : List Mark) (position : ℕ) (rec other : Record) →
+    SpeculatesAfter past node earlier position rec → SpeculatesAfter past another before position other →
+    (rec ≡ other) ⊎ (HasNoticed earlier position ⊎ HasNoticed before position)
+
+-- ---- without a notice
+
+-- a record that some node speculated or confirmed at a position
+abbrev pub IsMarked : Past → ℕ → Record → Type 0
+IsMarked past position rec = IsSpeculated past position rec ⊎ IsConfirmed past position rec
+
+abbrev pub IsUnnoticed : Past → Type 0
+IsUnnoticed past = (first : ℕ) → ¬ Contains (shown past) (marks.Notice first)
+
+-- where no node noticed a removal, no position has two records, speculated or confirmed
+abbrev pub OneRecordUnnoticed : Past → Type 0
+OneRecordUnnoticed past =
+    IsUnnoticed past → (position : ℕ) (rec other : Record) → IsMarked past position rec → IsMarked past position other → rec ≡ other
+
+-- it follows from three of the laws
+abbrev pub UnnoticedFollows : Type 0
+UnnoticedFollows = (cfg : Config) (past : Past) → IsOneLog past → SpeculationHolds cfg past → SpeculationAgrees past → OneRecordUnnoticed past
