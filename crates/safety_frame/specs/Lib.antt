@@ -1,0 +1,7 @@
+pub mod Sound
+pub mod Gathered
+pub mod StableItems
+pub mod Steps
+pub mod Agreed
+pub mod Replicates
+pub mod Heeded
