@@ -33,7 +33,8 @@ or-false : (a : Bool) → (a || false) ≡ a
 or-false true = refl
 or-false false = refl
 
-known_after-some : (rec : Record) (b : Bool) (later : List Record) → known_after (Some (rec, b)) later ≡ Some (rec, b || list_any (λ other. not (same_record rec other)) later)
+known_after-some : (rec : Record) (b : Bool) (later : List Record)
+    → known_after (Some (rec, b)) later ≡ Some (rec, b || list_any (λ other. not (same_record rec other)) later)
 known_after-some rec b [] = ap (λ t. Some (rec, t)) (sym (or-false b))
 known_after-some rec b (other ∷ later) =
     known_after-some rec (b || not (same_record rec other)) later
@@ -59,7 +60,8 @@ changed known rec h =
       | false ↦ λ e. ap not e
     ] h
 
-find-confirmed : (c : Confirmed) (position : ℕ) (rec : Record) (q : ℕ) → find q (with_confirmed c position rec) ≡ cond (position == q) (Some (known_next (find q c) rec)) (find q c)
+find-confirmed : (c : Confirmed) (position : ℕ) (rec : Record) (q : ℕ)
+    → find q (with_confirmed c position rec) ≡ cond (position == q) (Some (known_next (find q c) rec)) (find q c)
 find-confirmed c position rec q =
     elim (find position c) as (λ o. find position c ≡ o → find q (with_known o c position rec) ≡ cond (position == q) (Some (known_next (find q c) rec)) (find q c)) [
       | None ↦ λ none.
@@ -86,7 +88,8 @@ find-confirmed c position rec q =
 abbrev records_by : ℕ → Mark → List Record
 records_by q mark = records_at (cons_option (confirmation_in mark) []) q
 
-records-cons : (mark : Mark) (later : List Mark) (q : ℕ) (known : Option (Record × Bool)) → known_after known (records_at (confirmations (mark ∷ later)) q) ≡ known_after (known_after known (records_by q mark)) (records_at (confirmations later) q)
+records-cons : (mark : Mark) (later : List Mark) (q : ℕ) (known : Option (Record × Bool))
+    → known_after known (records_at (confirmations (mark ∷ later)) q) ≡ known_after (known_after known (records_by q mark)) (records_at (confirmations later) q)
 records-cons (marks.Confirm position rec) later q known =
     elim (position == q) as (λ b. known_after known (cons_option (cond b (Some rec) None) (records_at (confirmations later) q)) ≡ known_after (known_after known (cons_option (cond b (Some rec) None) [])) (records_at (confirmations later) q)) [
       | true ↦ refl
@@ -131,7 +134,8 @@ end-rises : (a : ℕ) (confirmed : List (ℕ × Record)) → a ≤ fold (λ end 
 end-rises a [] = omega arith
 end-rises a (c ∷ confirmed) = let later = end-rises (max a (c.0 + 1)) confirmed in omega arith
 
-confirmed-below : (a : ℕ) (confirmed : List (ℕ × Record)) (q : ℕ) → IsSome (known_of (records_at confirmed q)) → q < fold (λ end c. max end (c.0 + 1)) a confirmed
+confirmed-below : (a : ℕ) (confirmed : List (ℕ × Record)) (q : ℕ) → IsSome (known_of (records_at confirmed q))
+    → q < fold (λ end c. max end (c.0 + 1)) a confirmed
 confirmed-below a [] q h = cc
 confirmed-below a (c ∷ confirmed) q h =
     elim (c.0 == q) as (λ b. (c.0 == q) ≡ b → IsSome (known_of (cons_option (cond b (Some c.1) None) (records_at confirmed q))) → q < fold (λ end c. max end (c.0 + 1)) (max a (c.0 + 1)) confirmed) [
@@ -144,7 +148,8 @@ confirmed-below a (c ∷ confirmed) q h =
 
 -- ---- as text
 
-first-known : (position : ℕ) (recs : List Record) → option_map_or (log_line position) (slice_get recs 0) [] ≡ option_map_or (λ known. log_line position known.0) (known_of recs) []
+first-known : (position : ℕ) (recs : List Record)
+    → option_map_or (log_line position) (slice_get recs 0) [] ≡ option_map_or (λ known. log_line position known.0) (known_of recs) []
 first-known position [] = refl
 first-known position (rec ∷ later) = refl
 

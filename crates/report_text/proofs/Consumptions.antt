@@ -22,7 +22,8 @@ abbrev last_place : (Mark → Bool) → ℕ → List Mark → Option ℕ
 last_place test n [] = None
 last_place test n (mark ∷ later) = option_or (last_place test (n + 1) later) (cond (test mark) (Some n) None)
 
-last-push : (test : Mark → Bool) (n : ℕ) (earlier : List Mark) (mark : Mark) → last_place test n (earlier ++ mark ∷ []) ≡ cond (test mark) (Some (n + length earlier)) (last_place test n earlier)
+last-push : (test : Mark → Bool) (n : ℕ) (earlier : List Mark) (mark : Mark)
+    → last_place test n (earlier ++ mark ∷ []) ≡ cond (test mark) (Some (n + length earlier)) (last_place test n earlier)
 last-push test n [] mark = elim (test mark) as (λ b. cond b (Some n) None ≡ cond b (Some (n + 0)) None) [ true ↦ ap Some (omega arith) | false ↦ refl ]
 last-push test n (first ∷ earlier) mark =
     ap (λ o. option_or o (cond (test first) (Some n) None)) (last-push test (n + 1) earlier mark)
@@ -31,7 +32,8 @@ last-push test n (first ∷ earlier) mark =
       | false ↦ refl
     ]
 
-last-append : (test : Mark → Bool) (n : ℕ) (earlier here : List Mark) → last_place test n (earlier ++ here) ≡ option_or (last_place test (n + length earlier) here) (last_place test n earlier)
+last-append : (test : Mark → Bool) (n : ℕ) (earlier here : List Mark)
+    → last_place test n (earlier ++ here) ≡ option_or (last_place test (n + length earlier) here) (last_place test n earlier)
 last-append test n [] here = sym (or-none (last_place test (n + 0) here) ∙ ap (λ k. last_place test k here) (omega arith))
 last-append test n (first ∷ earlier) here =
     ap (λ o. option_or o (cond (test first) (Some n) None)) (last-append test (n + 1) earlier here)
@@ -76,7 +78,8 @@ from-start : (at start : ℕ) → start ≤ at → nat_lt at start ≡ false
 from-start at start h = grind (arith, nat_tests)
 
 -- a place before those of this entry, and none among those
-before-is : (start : ℕ) (o p : Option ℕ) → IfSome o (λ at. at < start) → IfSome p (λ at. start ≤ at) → is_before start (option_or p o) ≡ (is_some o && not (is_some p))
+before-is : (start : ℕ) (o p : Option ℕ) → IfSome o (λ at. at < start) → IfSome p (λ at. start ≤ at)
+    → is_before start (option_or p o) ≡ (is_some o && not (is_some p))
 before-is start None None h k = refl
 before-is start (Some at) None h k = below-start at start h
 before-is start None (Some at) h k = from-start at start k
@@ -86,7 +89,8 @@ within-zero : (o : Option ℕ) (n : ℕ) → IfSome o (λ at. at < 0 + n) → If
 within-zero None n h = tt
 within-zero (Some at) n h = omega arith
 
-early-is : (test : Mark → Bool) (earlier here : List Mark) → is_before (length earlier) (last_place test 0 (earlier ++ here)) ≡ (list_any test earlier && not (list_any test here))
+early-is : (test : Mark → Bool) (earlier here : List Mark)
+    → is_before (length earlier) (last_place test 0 (earlier ++ here)) ≡ (list_any test earlier && not (list_any test here))
 early-is test earlier here =
     ap (is_before (length earlier)) (last-append test 0 earlier here ∙ ap (λ k. option_or (last_place test k here) (last_place test 0 earlier)) (omega arith))
     ∙ before-is (length earlier) (last_place test 0 earlier) (last_place test (length earlier) here)
@@ -96,11 +100,13 @@ early-is test earlier here =
 
 -- ---- one mark more
 
-count_undone-push : (log : List Record) (earlier : List Mark) (mark : Mark) → count_undone log (earlier ++ mark ∷ []) ≡ count_undone log earlier + undone_in (fold after_mark log earlier) mark
+count_undone-push : (log : List Record) (earlier : List Mark) (mark : Mark)
+    → count_undone log (earlier ++ mark ∷ []) ≡ count_undone log earlier + undone_in (fold after_mark log earlier) mark
 count_undone-push log [] mark = omega arith
 count_undone-push log (first ∷ earlier) mark = let rest = count_undone-push (after_mark log first) earlier mark in omega arith
 
-placed-none : (shown : List Mark) (mark : Mark) (applied_at : List (ℕ × ℕ)) (q : ℕ) → is_apply_at q mark ≡ false → find q applied_at ≡ last_place (is_apply_at q) 0 shown → find q applied_at ≡ last_place (is_apply_at q) 0 (shown ++ mark ∷ [])
+placed-none : (shown : List Mark) (mark : Mark) (applied_at : List (ℕ × ℕ)) (q : ℕ) → is_apply_at q mark ≡ false
+    → find q applied_at ≡ last_place (is_apply_at q) 0 shown → find q applied_at ≡ last_place (is_apply_at q) 0 (shown ++ mark ∷ [])
 placed-none shown mark applied_at q none e = e ∙ sym (last-push (is_apply_at q) 0 shown mark ∙ ap (λ b. cond b (Some (0 + length shown)) (last_place (is_apply_at q) 0 shown)) none)
 
 -- what was gathered of the consumer of a number is what its marks say, but for early confirmations
@@ -113,14 +119,16 @@ pub record IsSaid (number : ℕ) (shown : List Mark) (c : Consumed) : Type 0 whe
   pub notices : c.notices ≡ notices shown
   pub out_lines : c.out_lines ≡ flat_map (out_line number) (outputs shown)
 
-places-after : (number : ℕ) (shown : List Mark) (c : Consumed) (mark : Mark) (q : ℕ) → IsSaid number shown c → find q (applied_at_after c mark) ≡ last_place (is_apply_at q) 0 (shown ++ mark ∷ [])
+places-after : (number : ℕ) (shown : List Mark) (c : Consumed) (mark : Mark) (q : ℕ) → IsSaid number shown c
+    → find q (applied_at_after c mark) ≡ last_place (is_apply_at q) 0 (shown ++ mark ∷ [])
 places-after number shown c (marks.Apply position rec) q p =
     find-insert c.applied_at position (length c.marks) q ∙ ap (λ b. cond b (Some (length c.marks)) (find q c.applied_at)) (flipped q position)
     ∙ ap (cond (position == q) (Some (length c.marks))) (p.places q) ∙ ap (λ n. cond (position == q) (Some n) (last_place (is_apply_at q) 0 shown)) (ap length p.marks ∙ omega arith)
     ∙ sym (last-push (is_apply_at q) 0 shown (marks.Apply position rec))
 places-after number shown c mark q p = placed-none shown mark c.applied_at q refl (p.places q)
 
-IsSaid-more : (number start : ℕ) (shown : List Mark) (c : Consumed) (mark : Mark) → IsSaid number shown c → IsSaid number (shown ++ mark ∷ []) (with_own_mark number start c mark)
+IsSaid-more : (number start : ℕ) (shown : List Mark) (c : Consumed) (mark : Mark) → IsSaid number shown c
+    → IsSaid number (shown ++ mark ∷ []) (with_own_mark number start c mark)
 IsSaid-more number start shown c mark p = record {
   marks = ap (λ ms. ms ++ mark ∷ []) p.marks;
   places = λ q. places-after number shown c mark q p;
@@ -133,7 +141,8 @@ IsSaid-more number start shown c mark p = record {
       ∙ sym (ap (flat_map (out_line number)) (filter_map-append output_in shown (mark ∷ [])) ∙ flat_map-append (out_line number) (outputs shown) (outputs (mark ∷ [])));
 }
 
-early-more : (number : ℕ) (earlier here : List Mark) (c : Consumed) (mark : Mark) → IsSaid number (earlier ++ here) c → early_after (length earlier) c mark ≡ c.early + early_in earlier here mark
+early-more : (number : ℕ) (earlier here : List Mark) (c : Consumed) (mark : Mark) → IsSaid number (earlier ++ here) c
+    → early_after (length earlier) c mark ≡ c.early + early_in earlier here mark
 early-more number earlier here c (marks.Confirm position rec) p =
     ap (λ o. cond (is_before (length earlier) o) (c.early + 1) c.early) (p.places position)
     ∙ ap (λ b. cond b (c.early + 1) c.early) (early-is (is_apply_at position) earlier here)
@@ -146,7 +155,8 @@ pub record IsAfter (number : ℕ) (earlier here later : List Mark) (before : ℕ
   pub said : IsSaid number (earlier ++ (here ++ later)) c
   pub early : c.early ≡ before + early_among earlier here later
 
-after-marks : (number : ℕ) (earlier here later : List Mark) (c : Consumed) → IsSaid number (earlier ++ here) c → IsAfter number earlier here later c.early (fold (with_own_mark number (length earlier)) c later)
+after-marks : (number : ℕ) (earlier here later : List Mark) (c : Consumed) → IsSaid number (earlier ++ here) c
+    → IsAfter number earlier here later c.early (fold (with_own_mark number (length earlier)) c later)
 after-marks number earlier here [] c p = record { said = rw append-nil p; early = omega arith }
 after-marks number earlier here (mark ∷ later) c p =
     let more : IsSaid number (earlier ++ (here ++ mark ∷ [])) (with_own_mark number (length earlier) c mark) =
@@ -171,7 +181,8 @@ IsConsumed-none number = record {
 }
 
 -- its own entry, and one of another node
-pub IsConsumed-own : (number : ℕ) (past : Past) (e : HistoryEntry) (c : Consumed) → same_node e.node (nodes.Consumer number) ≡ true → IsConsumed number past c → IsConsumed number (e ∷ past) (with_own_marks number c e.marks)
+pub IsConsumed-own : (number : ℕ) (past : Past) (e : HistoryEntry) (c : Consumed) → same_node e.node (nodes.Consumer number) ≡ true → IsConsumed number past c
+    → IsConsumed number (e ∷ past) (with_own_marks number c e.marks)
 IsConsumed-own number past e c own h =
     let earlier : List Mark = marks_of (nodes.Consumer number) past in
     let at : marks_at (nodes.Consumer number) e ≡ e.marks = ap (λ b. cond b e.marks []) own in
@@ -183,7 +194,8 @@ IsConsumed-own number past e c own h =
       early = rw (at, ← h.early) after.early;
     }
 
-pub IsConsumed-other : (number : ℕ) (past : Past) (e : HistoryEntry) (c : Consumed) → same_node e.node (nodes.Consumer number) ≡ false → IsConsumed number past c → IsConsumed number (e ∷ past) c
+pub IsConsumed-other : (number : ℕ) (past : Past) (e : HistoryEntry) (c : Consumed) → same_node e.node (nodes.Consumer number) ≡ false
+    → IsConsumed number past c → IsConsumed number (e ∷ past) c
 IsConsumed-other number past e c other h =
     let at : marks_at (nodes.Consumer number) e ≡ [] = ap (λ b. cond b e.marks []) other in
     record {
@@ -191,5 +203,6 @@ IsConsumed-other number past e c other h =
       early = rw at (h.early ∙ omega arith);
     }
 
-pub consumed_lines-is : (cfg : Config) (past : Past) (number : ℕ) (c : Consumed) → IsConsumed number past c → consumed_lines cfg number c ≡ lines_of_consumer cfg past number
+pub consumed_lines-is : (cfg : Config) (past : Past) (number : ℕ) (c : Consumed) → IsConsumed number past c
+    → consumed_lines cfg number c ≡ lines_of_consumer cfg past number
 consumed_lines-is cfg past number c h = rw (h.said.confirmed, h.said.log, h.early, h.said.undone, h.said.notices, h.said.out_lines) refl

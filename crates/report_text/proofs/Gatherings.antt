@@ -45,7 +45,8 @@ changed-later : {A : Type 0} (f : A → A) (x : A) (xs : List A) (at : ℕ) → 
 changed-later f x xs at = elim (slice_get xs at) as (λ o. option_map_or (λ y. slice_set (x ∷ xs) (suc at) (f y)) o (x ∷ xs) ≡ x ∷ option_map_or (λ y. slice_set xs at (f y)) o xs) [ None ↦ refl | Some y ↦ refl ]
 
 -- the member of one number is changed
-Numbered-changed : {A : Type 0} (P Q : ℕ → A → Type 0) (f : A → A) (number : ℕ) → ((x : A) → P number x → Q number (f x)) → ((m : ℕ) (x : A) → (number == m) ≡ false → P m x → Q m x)
+Numbered-changed : {A : Type 0} (P Q : ℕ → A → Type 0) (f : A → A) (number : ℕ) → ((x : A) → P number x → Q number (f x))
+    → ((m : ℕ) (x : A) → (number == m) ≡ false → P m x → Q m x)
     → (at n : ℕ) (xs : List A) → number ≡ n + at → Numbered P n xs → Numbered Q n (changed_at f xs at)
 Numbered-changed P Q f number own other at n [] is h = tt
 Numbered-changed P Q f number own other zero n (x ∷ xs) is h =
@@ -63,11 +64,13 @@ length-changed f [] at = refl
 length-changed f (x ∷ xs) zero = refl
 length-changed f (x ∷ xs) (suc at) = ap length (changed-later f x xs at) ∙ ap suc (length-changed f xs at)
 
-numbered_lines-is : {A : Type 0} (f : ℕ → A → List ℕ) (g : ℕ → List ℕ) (n : ℕ) (xs : List A) → Numbered (λ m x. f m x ≡ g m) n xs → numbered_lines f n xs ≡ flat_map g (range_with_len n (length xs))
+numbered_lines-is : {A : Type 0} (f : ℕ → A → List ℕ) (g : ℕ → List ℕ) (n : ℕ) (xs : List A) → Numbered (λ m x. f m x ≡ g m) n xs
+    → numbered_lines f n xs ≡ flat_map g (range_with_len n (length xs))
 numbered_lines-is f g n [] h = refl
 numbered_lines-is f g n (x ∷ xs) h = ap (λ first. first ++ numbered_lines f (n + 1) xs) h.0 ∙ ap (λ rest. g n ++ rest) (numbered_lines-is f g (n + 1) xs h.1)
 
-same_parts : {a b c d e f a' b' c' d' e' f' : List ℕ} → a ≡ a' → b ≡ b' → c ≡ c' → d ≡ d' → e ≡ e' → f ≡ f' → a ++ b ++ c ++ d ++ e ++ f ≡ a' ++ b' ++ c' ++ d' ++ e' ++ f'
+same_parts : {a b c d e f a' b' c' d' e' f' : List ℕ} → a ≡ a' → b ≡ b' → c ≡ c' → d ≡ d' → e ≡ e' → f ≡ f'
+    → a ++ b ++ c ++ d ++ e ++ f ≡ a' ++ b' ++ c' ++ d' ++ e' ++ f'
 same_parts p q r s t u = cc
 
 -- ---- what was gathered from a past
@@ -87,13 +90,16 @@ IsGathered-none cfg messages marks = record {
 }
 
 module _ (past : Past) (e : HistoryEntry) where
-  consumers-same : (consumers : List Consumed) → ((number : ℕ) → same_node e.node (nodes.Consumer number) ≡ false) → Numbered (λ number. IsConsumed number past) 0 consumers → Numbered (λ number. IsConsumed number (e ∷ past)) 0 consumers
+  consumers-same : (consumers : List Consumed) → ((number : ℕ) → same_node e.node (nodes.Consumer number) ≡ false)
+      → Numbered (λ number. IsConsumed number past) 0 consumers → Numbered (λ number. IsConsumed number (e ∷ past)) 0 consumers
   consumers-same consumers other h = Numbered-weaker (λ number. IsConsumed number past) (λ number. IsConsumed number (e ∷ past)) 0 consumers (λ m c _ held. IsConsumed-other m past e c (other m) held) h
 
-  clients-same : (clients : List Submitted) → ((number : ℕ) → same_node e.node (nodes.Client number) ≡ false) → Numbered (λ number. IsSubmitted (nodes.Client number) past) 0 clients → Numbered (λ number. IsSubmitted (nodes.Client number) (e ∷ past)) 0 clients
+  clients-same : (clients : List Submitted) → ((number : ℕ) → same_node e.node (nodes.Client number) ≡ false)
+      → Numbered (λ number. IsSubmitted (nodes.Client number) past) 0 clients → Numbered (λ number. IsSubmitted (nodes.Client number) (e ∷ past)) 0 clients
   clients-same clients other h = Numbered-weaker (λ number. IsSubmitted (nodes.Client number) past) (λ number. IsSubmitted (nodes.Client number) (e ∷ past)) 0 clients (λ m c _ held. IsSubmitted-other (nodes.Client m) past e c (other m) held) h
 
-  consumers-more : (node : NodeId) (consumers : List Consumed) → e.node ≡ node → Numbered (λ number. IsConsumed number past) 0 consumers → Numbered (λ number. IsConsumed number (e ∷ past)) 0 (consumers_after node e consumers)
+  consumers-more : (node : NodeId) (consumers : List Consumed) → e.node ≡ node → Numbered (λ number. IsConsumed number past) 0 consumers
+      → Numbered (λ number. IsConsumed number (e ∷ past)) 0 (consumers_after node e consumers)
   consumers-more (nodes.Consumer number) consumers is h =
       Numbered-changed (λ m. IsConsumed m past) (λ m. IsConsumed m (e ∷ past)) (λ c. with_own_marks number c e.marks) number
       (λ c held. IsConsumed-own number past e c (ap (λ node. same_node node (nodes.Consumer number)) is ∙ itself number) held)
@@ -103,7 +109,8 @@ module _ (past : Past) (e : HistoryEntry) where
   consumers-more (nodes.Seq number) consumers is h = consumers-same consumers (λ m. ap (λ node. same_node node (nodes.Consumer m)) is) h
   consumers-more (nodes.Shard number side) consumers is h = consumers-same consumers (λ m. ap (λ node. same_node node (nodes.Consumer m)) is) h
 
-  clients-more : (node : NodeId) (clients : List Submitted) → e.node ≡ node → Numbered (λ number. IsSubmitted (nodes.Client number) past) 0 clients → Numbered (λ number. IsSubmitted (nodes.Client number) (e ∷ past)) 0 (clients_after node e clients)
+  clients-more : (node : NodeId) (clients : List Submitted) → e.node ≡ node → Numbered (λ number. IsSubmitted (nodes.Client number) past) 0 clients
+      → Numbered (λ number. IsSubmitted (nodes.Client number) (e ∷ past)) 0 (clients_after node e clients)
   clients-more (nodes.Client number) clients is h =
       Numbered-changed (λ m. IsSubmitted (nodes.Client m) past) (λ m. IsSubmitted (nodes.Client m) (e ∷ past)) (λ c. with_own_entry c e) number
       (λ c held. IsSubmitted-own (nodes.Client number) past e c (ap (λ node. same_node node (nodes.Client number)) is ∙ itself number) held)
@@ -132,7 +139,8 @@ IsGathered-more cfg past g e h = record {
 -- ---- a whole history
 
 -- one item more
-pub fold_next : {A B : Type 0} (f : B → A → B) (z : B) (xs : List A) (index : ℕ) → fold f z (take (suc index) xs) ≡ option_map_or (f (fold f z (take index xs))) (slice_get xs index) (fold f z (take index xs))
+pub fold_next : {A B : Type 0} (f : B → A → B) (z : B) (xs : List A) (index : ℕ)
+    → fold f z (take (suc index) xs) ≡ option_map_or (f (fold f z (take index xs))) (slice_get xs index) (fold f z (take index xs))
 fold_next f z [] zero = refl
 fold_next f z [] (suc index) = refl
 fold_next f z (x ∷ xs) zero = refl
@@ -182,5 +190,6 @@ gathered_lines-is cfg history =
     same_parts head told confirmed consumers clients differ
 
 -- where each message is valid, each slot that was told has an entry that can be applied
-pub valid-told : (cfg : Config) (history : List HistoryEntry) → AreValidMessages (sent (past_of history)) → AllByRecursion IsValidTold (gathered_of cfg history).told
+pub valid-told : (cfg : Config) (history : List HistoryEntry) → AreValidMessages (sent (past_of history))
+    → AllByRecursion IsValidTold (gathered_of cfg history).told
 valid-told cfg history h = rw (told-all cfg history) (valid-messages [] (sent (past_of history)) h tt)

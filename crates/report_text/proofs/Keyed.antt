@@ -46,7 +46,8 @@ pub flat_map_same : {X A : Type 0} (f g : X → List A) → ((x : X) → f x ≡
 flat_map_same f g same [] = refl
 flat_map_same f g same (x ∷ xs) = ap (λ first. first ++ flat_map f xs) (same x) ∙ ap (λ rest. g x ++ rest) (flat_map_same f g same xs)
 
-counted_same : {X : Type 0} (p q : X → Bool) → ((x : X) → p x ≡ q x) → (a : ℕ) (xs : List X) → fold (λ a x. a + cond (p x) 1 0) a xs ≡ fold (λ a x. a + cond (q x) 1 0) a xs
+counted_same : {X : Type 0} (p q : X → Bool) → ((x : X) → p x ≡ q x) → (a : ℕ) (xs : List X)
+    → fold (λ a x. a + cond (p x) 1 0) a xs ≡ fold (λ a x. a + cond (q x) 1 0) a xs
 counted_same p q same a [] = refl
 counted_same p q same a (x ∷ xs) = ap (λ b. fold (λ a x. a + cond (p x) 1 0) (a + cond b 1 0) xs) (same x) ∙ counted_same p q same (a + cond (q x) 1 0) xs
 
@@ -137,7 +138,8 @@ module _ {V : Type 0} where
             rw none (entries_of_range count (n + 1) (e ∷ es) f (above, r.1) (λ q h. tells q (omega arith)) (λ q h s. let w : q < n + suc count = within q (omega arith) s in omega arith))
       ] refl
 
-  pub flat_map_for : {A : Type 0} (g : ℕ → V → List A) (f : ℕ → Option V) (ks : List ℕ) → flat_map (λ k. option_map_or (g k) (f k) []) ks ≡ flat_map (λ e. g e.0 e.1) (filter_map (entry_for f) ks)
+  pub flat_map_for : {A : Type 0} (g : ℕ → V → List A) (f : ℕ → Option V) (ks : List ℕ)
+      → flat_map (λ k. option_map_or (g k) (f k) []) ks ≡ flat_map (λ e. g e.0 e.1) (filter_map (entry_for f) ks)
   flat_map_for g f [] = refl
   flat_map_for g f (k ∷ ks) =
       elim (f k) as (λ o. option_map_or (g k) o [] ++ flat_map (λ k. option_map_or (g k) (f k) []) ks ≡ flat_map (λ e. g e.0 e.1) (cons_option (option_map (λ v. (k, v)) o) (filter_map (entry_for f) ks))) [
@@ -145,7 +147,8 @@ module _ {V : Type 0} where
         | Some v ↦ ap (λ rest. g k v ++ rest) (flat_map_for g f ks)
       ]
 
-  counted_for : (h : V → Bool) (f : ℕ → Option V) (a : ℕ) (ks : List ℕ) → fold (λ a k. a + cond (option_map_or h (f k) false) 1 0) a ks ≡ fold (λ a e. a + cond (h e.1) 1 0) a (filter_map (entry_for f) ks)
+  counted_for : (h : V → Bool) (f : ℕ → Option V) (a : ℕ) (ks : List ℕ)
+      → fold (λ a k. a + cond (option_map_or h (f k) false) 1 0) a ks ≡ fold (λ a e. a + cond (h e.1) 1 0) a (filter_map (entry_for f) ks)
   counted_for h f a [] = refl
   counted_for h f a (k ∷ ks) =
       elim (f k) as (λ o. fold (λ a k. a + cond (option_map_or h (f k) false) 1 0) (a + cond (option_map_or h o false) 1 0) ks ≡ fold (λ a e. a + cond (h e.1) 1 0) a (cons_option (option_map (λ v. (k, v)) o) (filter_map (entry_for f) ks))) [
@@ -153,7 +156,8 @@ module _ {V : Type 0} where
         | Some v ↦ counted_for h f (a + cond (h v) 1 0) ks
       ]
 
-  pub count_by_for : (h : V → Bool) (f : ℕ → Option V) (ks : List ℕ) → count_by (λ k. option_map_or h (f k) false) ks ≡ count_by (λ e. h e.1) (filter_map (entry_for f) ks)
+  pub count_by_for : (h : V → Bool) (f : ℕ → Option V) (ks : List ℕ)
+      → count_by (λ k. option_map_or h (f k) false) ks ≡ count_by (λ e. h e.1) (filter_map (entry_for f) ks)
   count_by_for h f ks = counted_for h f 0 ks
 
 -- values that are seen through a function

@@ -41,7 +41,8 @@ module _ {V : Type 0} where
 
   -- ---- what is put
 
-  pub put_first : (a : ℕ) (vs : List V) (rest : List (ℕ × V)) (i : ℕ) (w : V) → i < length vs → insert_entry nat_cmp (numbered a vs ++ rest) (a + i) w ≡ numbered a (slice_set vs i w) ++ rest
+  pub put_first : (a : ℕ) (vs : List V) (rest : List (ℕ × V)) (i : ℕ) (w : V) → i < length vs
+      → insert_entry nat_cmp (numbered a vs ++ rest) (a + i) w ≡ numbered a (slice_set vs i w) ++ rest
   put_first a [] rest i w below = absurd (omega arith)
   put_first a (v ∷ vs) rest zero w below =
       let same : a + 0 ≡ a = omega arith in
@@ -54,7 +55,8 @@ module _ {V : Type 0} where
       ∙ ap (λ q. (a, v) ∷ insert_entry nat_cmp (numbered (a + 1) vs ++ rest) q w) next
       ∙ ap (λ es. (a, v) ∷ es) (put_first (a + 1) vs rest i w (omega arith))
 
-  pub put_rest : (a : ℕ) (vs : List V) (rest : List (ℕ × V)) (q : ℕ) (w : V) → a + length vs ≤ q → insert_entry nat_cmp (numbered a vs ++ rest) q w ≡ numbered a vs ++ insert_entry nat_cmp rest q w
+  pub put_rest : (a : ℕ) (vs : List V) (rest : List (ℕ × V)) (q : ℕ) (w : V) → a + length vs ≤ q
+      → insert_entry nat_cmp (numbered a vs ++ rest) q w ≡ numbered a vs ++ insert_entry nat_cmp rest q w
   put_rest a [] rest q w past = refl
   put_rest a (v ∷ vs) rest q w past =
       ap (λ o. match_ordering o ((q, w) ∷ (a, v) ∷ (numbered (a + 1) vs ++ rest)) ((a, w) ∷ (numbered (a + 1) vs ++ rest)) ((a, v) ∷ insert_entry nat_cmp (numbered (a + 1) vs ++ rest) q w)) (cmp_above q a (omega arith))

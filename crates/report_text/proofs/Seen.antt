@@ -22,10 +22,12 @@ told_in es = seen (λ (e : Bor Entry). e.now) es
 is_told-in : (es : List (ℕ × Bor Entry)) (told : Told) (slot : ℕ) → told_in es ≡ told → is_some (find slot told) ≡ is_some (find slot es)
 is_told-in es told slot view = ap (λ t. is_some (find slot t)) (sym view) ∙ ap is_some (find-seen (λ (e : Bor Entry). e.now) es slot) ∙ some-map (λ (e : Bor Entry). e.now) (find slot es)
 
-pub told-kept : (es : List (ℕ × Bor Entry)) (told : Told) (slot : ℕ) (entry : Entry) → told_in es ≡ told → is_some (find slot es) ≡ true → told ≡ with_told told slot entry
+pub told-kept : (es : List (ℕ × Bor Entry)) (told : Told) (slot : ℕ) (entry : Entry) → told_in es ≡ told → is_some (find slot es) ≡ true
+    → told ≡ with_told told slot entry
 told-kept es told slot entry view some = sym (ap (λ b. cond b told (insert_entry nat_cmp told slot entry)) (is_told-in es told slot view ∙ some))
 
-pub told-new : (es new : List (ℕ × Bor Entry)) (told : Told) (slot : ℕ) (entry : Bor Entry) → told_in es ≡ told → is_some (find slot es) ≡ false → new ≡ insert_entry nat_cmp es slot entry → told_in new ≡ with_told told slot entry.now
+pub told-new : (es new : List (ℕ × Bor Entry)) (told : Told) (slot : ℕ) (entry : Bor Entry) → told_in es ≡ told → is_some (find slot es) ≡ false
+    → new ≡ insert_entry nat_cmp es slot entry → told_in new ≡ with_told told slot entry.now
 told-new es new told slot entry view none is =
     ap told_in is ∙ insert-seen (λ (e : Bor Entry). e.now) es slot entry ∙ ap (λ t. insert_entry nat_cmp t slot entry.now) view
     ∙ sym (ap (λ b. cond b told (insert_entry nat_cmp told slot entry.now)) (is_told-in es told slot view ∙ none))
@@ -38,20 +40,26 @@ known_in known = (known.first.now, known.differs)
 abbrev confirmed_in : List (ℕ × Found) → Confirmed
 confirmed_in es = seen known_in es
 
-known-at : (es : List (ℕ × Found)) (c : Confirmed) (position : ℕ) (o : Option Found) → confirmed_in es ≡ c → find position es ≡ o → find position c ≡ option_map known_in o
+known-at : (es : List (ℕ × Found)) (c : Confirmed) (position : ℕ) (o : Option Found) → confirmed_in es ≡ c → find position es ≡ o
+    → find position c ≡ option_map known_in o
 known-at es c position o view is = ap (find position) (sym view) ∙ find-seen known_in es position ∙ ap (option_map known_in) is
 
-pub confirmed-put : (es new : List (ℕ × Found)) (c : Confirmed) (position : ℕ) (known : Found) → confirmed_in es ≡ c → new ≡ insert_entry nat_cmp es position known → confirmed_in new ≡ insert_entry nat_cmp c position (known_in known)
+pub confirmed-put : (es new : List (ℕ × Found)) (c : Confirmed) (position : ℕ) (known : Found) → confirmed_in es ≡ c
+    → new ≡ insert_entry nat_cmp es position known → confirmed_in new ≡ insert_entry nat_cmp c position (known_in known)
 confirmed-put es new c position known view is = ap confirmed_in is ∙ insert-seen known_in es position known ∙ ap (λ c. insert_entry nat_cmp c position (known_in known)) view
 
-pub confirmed-new : (es : List (ℕ × Found)) (c : Confirmed) (position : ℕ) (rec : Record) → confirmed_in es ≡ c → find position es ≡ None → insert_entry nat_cmp c position (rec, false) ≡ with_confirmed c position rec
+pub confirmed-new : (es : List (ℕ × Found)) (c : Confirmed) (position : ℕ) (rec : Record) → confirmed_in es ≡ c → find position es ≡ None
+    → insert_entry nat_cmp c position (rec, false) ≡ with_confirmed c position rec
 confirmed-new es c position rec view none = sym (ap (λ o. with_known o c position rec) (known-at es c position None view none))
 
-pub confirmed-kept : (es : List (ℕ × Found)) (c : Confirmed) (position : ℕ) (rec : Record) (known : Found) → confirmed_in es ≡ c → find position es ≡ Some known → (known.differs || same_record known.first.now rec) ≡ true → c ≡ with_confirmed c position rec
+pub confirmed-kept : (es : List (ℕ × Found)) (c : Confirmed) (position : ℕ) (rec : Record) (known : Found) → confirmed_in es ≡ c → find position es ≡ Some known
+    → (known.differs || same_record known.first.now rec) ≡ true → c ≡ with_confirmed c position rec
 confirmed-kept es c position rec known view some same =
     sym (ap (λ o. with_known o c position rec) (known-at es c position (Some known) view some) ∙ ap (λ b. cond b c (insert_entry nat_cmp c position (known.first.now, true))) same)
 
-pub confirmed-changed : (es : List (ℕ × Found)) (c : Confirmed) (position : ℕ) (rec : Record) (known : Found) → confirmed_in es ≡ c → find position es ≡ Some known → (known.differs || same_record known.first.now rec) ≡ false → insert_entry nat_cmp c position (known.first.now, true) ≡ with_confirmed c position rec
+pub confirmed-changed : (es : List (ℕ × Found)) (c : Confirmed) (position : ℕ) (rec : Record) (known : Found) → confirmed_in es ≡ c
+    → find position es ≡ Some known → (known.differs || same_record known.first.now rec) ≡ false
+    → insert_entry nat_cmp c position (known.first.now, true) ≡ with_confirmed c position rec
 confirmed-changed es c position rec known view some same =
     sym (ap (λ o. with_known o c position rec) (known-at es c position (Some known) view some) ∙ ap (λ b. cond b c (insert_entry nat_cmp c position (known.first.now, true))) same)
 

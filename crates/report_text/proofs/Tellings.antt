@@ -7,7 +7,7 @@ use Rattle.std.specs.Ordering.{nat_cmp}
 use Rattle.std.proofs.lemmas.Bool.Decides.{nat_tests}
 use Rattle.std.proofs.lemmas.List.FromFn.{length-range_with_len}
 use Rattle.std.proofs.lemmas.List.{map-append, length-map}
-use Rattle.record_codec.specs.Entries.{IsValidEntry}
+use Rattle.quota_table.specs.Entries.{IsValidEntry}
 use Rattle.msg_wire.specs.Valid.{IsValidWhat}
 use Rattle.msg_wire.specs.Steps.{AreValidMessages}
 use Rattle.cut_core.specs.Agreements.{Agreement, agreement_from}
@@ -78,7 +78,8 @@ HasValidTable-of (entries.Cut window round) v = tt
 HasValidTable-of (entries.Table after rounds rows) v = (v.1.0, v.1.1, v.2)
 HasValidTable-of (entries.Remove window shard) v = tt
 
-valid-told : (told : Told) (slot : ℕ) (entry : Entry) → IsValidTold (slot, entry) → AllByRecursion IsValidTold told → AllByRecursion IsValidTold (with_told told slot entry)
+valid-told : (told : Told) (slot : ℕ) (entry : Entry) → IsValidTold (slot, entry) → AllByRecursion IsValidTold told
+    → AllByRecursion IsValidTold (with_told told slot entry)
 valid-told told slot entry v all =
     elim (is_some (find slot told)) as (λ b. AllByRecursion IsValidTold (cond b told (insert_entry nat_cmp told slot entry))) [
       | true ↦ all
@@ -89,7 +90,8 @@ valid-what : (told : Told) (what : What) → IsValidWhat what → AllByRecursion
 valid-what told (whats.Decided slot count entry) v all = valid-told told slot entry (v.0, HasValidTable-of entry v.3) all
 valid-what told what v all = all
 
-pub valid-messages : (told : Told) (messages : List Message) → AreValidMessages messages → AllByRecursion IsValidTold told → AllByRecursion IsValidTold (with_messages told messages)
+pub valid-messages : (told : Told) (messages : List Message) → AreValidMessages messages → AllByRecursion IsValidTold told
+    → AllByRecursion IsValidTold (with_messages told messages)
 valid-messages told [] v all = all
 valid-messages told (m ∷ messages) v all = valid-messages (with_message told m) messages v.1 (valid-what told m.what v.0.what all)
 
@@ -107,7 +109,8 @@ told_by-below q (whats.Decided slot count entry) h =
     ] refl h
 told_by-below q what h = cc
 
-told-below : (a : ℕ) (messages : List Message) (q : ℕ) → IsSome (first_told messages q) → q < fold (λ end (m : Message). max end (end_told_by m.what)) a messages
+told-below : (a : ℕ) (messages : List Message) (q : ℕ) → IsSome (first_told messages q)
+    → q < fold (λ end (m : Message). max end (end_told_by m.what)) a messages
 told-below a [] q h = cc
 told-below a (m ∷ messages) q h =
     elim (told_by q m.what) as (λ o. told_by q m.what ≡ o → IsSome (slice_get (cons_option o (filter_map (λ (m : Message). told_by q m.what) messages)) 0) → q < fold (λ end (m : Message). max end (end_told_by m.what)) (max a (end_told_by m.what)) messages) [
@@ -136,7 +139,8 @@ prefix-none [] = refl
 prefix-none (None ∷ os) = refl
 prefix-none (Some x ∷ os) = ap (λ rest. x ∷ rest) (prefix-none os)
 
-prefix-some : {A : Type 0} (os : List (Option A)) (x : A) → some_prefix (os ++ Some x ∷ []) ≡ cond (length (some_prefix os) == length os) (some_prefix os ++ x ∷ []) (some_prefix os)
+prefix-some : {A : Type 0} (os : List (Option A)) (x : A)
+    → some_prefix (os ++ Some x ∷ []) ≡ cond (length (some_prefix os) == length os) (some_prefix os ++ x ∷ []) (some_prefix os)
 prefix-some [] x = refl
 prefix-some (None ∷ os) x = rw (not_zero (length os)) refl
 prefix-some (Some y ∷ os) x =

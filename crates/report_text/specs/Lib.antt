@@ -4,7 +4,7 @@ pub mod Positions
 pub mod Consumers
 pub mod Clients
 pub mod Report
-pub mod Rows
+pub mod Worked
 pub mod Telling
 pub mod Confirming
 pub mod Consuming

@@ -11,12 +11,12 @@ mod consumers;
 mod gathered;
 mod positions;
 mod reporting;
-mod rows;
 mod slots;
 mod text;
 
 pub use reporting::report;
-pub use rows::rows_compute;
+pub use worked::worked_compute;
 
 #[cfg(test)]
 mod tests;
+mod worked;

@@ -1,5 +1,5 @@
 ghost use Rattle.std.specs.Prelude.{◌<◌, IfOk, OnOk};
-ghost use Rattle.record_codec.specs.Entries.{IsValidEntry};
+ghost use Rattle.quota_table.specs.Entries.{IsValidEntry};
 ghost use Rattle.msg_wire.specs.Valid.{IsValidConfig};
 ghost use Rattle.msg_wire.specs.Steps.{AreValidMessages};
 ghost use Rattle.net_model.specs.Pasts.{past_of, sent};

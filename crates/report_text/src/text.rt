@@ -5,6 +5,7 @@ use itoa::Buffer;
 use quota_table::{Bytes, OutOfMemory};
 
 /// Puts words at the end, and the number that follows them.
+#[inline(always)]
 pub fn put_counted(text: &mut Bytes, words: &[u8], number: u64) -> Result<(), OutOfMemory>
     ensures { OnOk result (text.new ≡ text.old ++ counted words.now number) }
 {

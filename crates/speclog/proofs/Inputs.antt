@@ -37,7 +37,8 @@ message_at at p (inputs.Command node command) e h = absurd cc
 message_at at p (inputs.Drain count) e h = absurd cc
 
 -- one of two that may be there
-either_at : (at : ℕ) (first second : Option PlayError) (e : PlayError) → ((f : PlayError) → first ≡ Some f → IsAt at f) → ((f : PlayError) → second ≡ Some f → IsAt at f) → option_or first second ≡ Some e → IsAt at e
+either_at : (at : ℕ) (first second : Option PlayError) (e : PlayError) → ((f : PlayError) → first ≡ Some f → IsAt at f)
+    → ((f : PlayError) → second ≡ Some f → IsAt at f) → option_or first second ≡ Some e → IsAt at e
 either_at at None second e one two h = two e h
 either_at at (Some f) second e one two h = one e h
 
@@ -52,7 +53,8 @@ here_is_within at count (NoMessage place number known) below here = omega (arith
 here_is_within at count (TooLong place) below here = omega (arith)
 here_is_within at count OutOfMemory below here = tt
 
-step_within : (at count : ℕ) (fault rest : Option PlayError) (e : PlayError) → ((f : PlayError) → fault ≡ Some f → IsAt at f) → ((f : PlayError) → rest ≡ Some f → IsWithin (at + 1 + count) f) → option_or fault rest ≡ Some e → IsWithin (at + suc count) e
+step_within : (at count : ℕ) (fault rest : Option PlayError) (e : PlayError) → ((f : PlayError) → fault ≡ Some f → IsAt at f)
+    → ((f : PlayError) → rest ≡ Some f → IsWithin (at + 1 + count) f) → option_or fault rest ≡ Some e → IsWithin (at + suc count) e
 step_within at count (Some f) rest e here later h = here_is_within at (at + suc count) e (omega (arith)) (here e h)
 step_within at count None rest e here later h = let same : at + 1 + count ≡ at + suc count = omega (arith) in subst (λ n. IsWithin n e) same (later e h)
 
@@ -75,6 +77,7 @@ refusal-within cfg given OutOfMemory r = tt
 -- ---- lines
 
 -- each input has a line
-pub lines-as-many : (lines : List Line) (cfg : Config) (given : List Input) (numbers : List ℕ) → SpellsLines lines cfg given numbers → length numbers ≡ length given
+pub lines-as-many : (lines : List Line) (cfg : Config) (given : List Input) (numbers : List ℕ) → SpellsLines lines cfg given numbers
+    → length numbers ≡ length given
 lines-as-many lines cfg given numbers s =
     ap (λ (xs : List ℕ). length xs) s.numbers_are ∙ (length-map (drop 6 lines) (λ (l : Line). l.number) ∙ sym (AllZip-long (λ (l : Line). SpellsInput l.bytes) (drop 6 lines) given s.inputs_are))

@@ -74,10 +74,10 @@ CountsBlame false old new = new ≡ old
 -- ---- playing
 
 -- a script was played to its end: the statuses 0 and 5
-abbrev pub is_played : Option Fault → Bool
-is_played None = true
-is_played (Some WriteFault) = true
-is_played _ = false
+abbrev pub has_history : Option Fault → Bool
+has_history None = true
+has_history (Some WriteFault) = true
+has_history _ = false
 
 -- nothing was asked of the sink: the statuses 2, 3 and 4
 abbrev pub is_unwritten : Option Fault → Bool

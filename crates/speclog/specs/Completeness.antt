@@ -8,8 +8,8 @@ use Rattle.speclog.specs.declared.fault.Fault.TheVariants.{OutOfMemory}
 
 -- the word `play`; a source that holds a text that is not too long and spells a script, each of whose inputs can be played; and
 -- no count of faults rose: then the script was played and its report is out, unless memory was refused
-abbrev pub IsPlayed : List (List ℕ) → Option (List ℕ) → Option Fault → Type 0 → Type 0 → Type 0
-IsPlayed words left fault source_rose sink_rose =
+abbrev pub IsPlayedWhole : List (List ℕ) → Option (List ℕ) → Option Fault → Type 0 → Type 0 → Type 0
+IsPlayedWhole words left fault source_rose sink_rose =
     (text : List ℕ) (cfg : Config) (inputs : List Input) (numbers : List ℕ) →
     words ≡ (codes "play" ∷ []) → left ≡ Some text → length text ≤ 16777216 → SpellsScript text cfg inputs numbers → play_fault cfg inputs ≡ None →
     (source_rose → ⊥) → (sink_rose → ⊥) → (fault ≡ None) ⊎ (fault ≡ Some OutOfMemory)

@@ -43,9 +43,9 @@ refusal_of text = fault_of_reading (script_in text) text
 -- ---- what the code's functions say
 
 -- a fault says which line is refused, unless memory was
-abbrev pub Refuses : Fault → Option Fault → Type 0
-Refuses OutOfMemory refusal = Unit {0}
-Refuses fault refusal = refusal ≡ Some fault
+abbrev pub RefusesWith : Fault → Option Fault → Type 0
+RefusesWith OutOfMemory refusal = Unit {0}
+RefusesWith fault refusal = refusal ≡ Some fault
 
 -- the input that is refused is one of so many
 abbrev pub IsWithin : ℕ → PlayError → Type 0

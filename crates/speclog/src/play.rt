@@ -10,10 +10,10 @@ ghost use Rattle.net_model.specs.Pasts.{past_of, sent};
 ghost use Rattle.script_text.specs.Reading.{script_in};
 ghost use Rattle.runs.specs.Runs.{IsRun};
 ghost use Rattle.world.specs.Playing.{history_of, play_fault};
-ghost use Rattle.speclog.specs.Answers.{status_of, is_played, is_of_whole_input, is_after_reading, refusal_in, is_write_fault, is_unwritten, CountsBlame};
+ghost use Rattle.speclog.specs.Answers.{status_of, has_history, is_of_whole_input, is_after_reading, refusal_in, is_write_fault, is_unwritten, CountsBlame};
 ghost use Rattle.report_text.specs.Report.{report_of};
 ghost use Rattle.speclog.specs.Plays.{Plays, Writes};
-ghost use Rattle.speclog.specs.Refusals.{refusal_of, fault_of_play, at_line, Refuses, IsWithin};
+ghost use Rattle.speclog.specs.Refusals.{refusal_of, fault_of_play, at_line, RefusesWith, IsWithin};
 
 use crate::fault::Fault;
 use crate::outcome::Outcome;
@@ -32,7 +32,7 @@ use world::PlayError;
 pub fn play_text<K: Sink>(alloc: Global, text: &[u8], sink: &mut K) -> Outcome
     requires { length text.now ≤ 16777216 }
     ensures status { result.status ≡ status_of result.fault }
-    ensures history { is_some result.history ≡ is_played result.fault }
+    ensures history { is_some result.history ≡ has_history result.fault }
     ensures looks { result.looks ≡ [] }
     ensures quiet { result.quiet ≡ false }
 
@@ -66,7 +66,7 @@ fn play_whole(alloc: Global, text: &[u8]) -> Result<Played, Fault>
     requires { length text.now ≤ 16777216 }
     ensures played { IfOk result (λ p. Plays text.now p.history p.report) }
     ensures accepted { OnOk result (refusal_of text.now ≡ None) }
-    ensures refused { IfErr result (λ fault. Refuses fault (refusal_of text.now)) }
+    ensures refused { IfErr result (λ fault. RefusesWith fault (refusal_of text.now)) }
 {
     match read_script(alloc, text) {
         Ok(script) => play_script(alloc, &script),
@@ -84,7 +84,7 @@ fn play_script(alloc: Global, script: &Script) -> Result<Played, Fault>
     ensures run { IfOk result (λ p. IsRun script.now.cfg p.history) }
     ensures report { IfOk result (λ p. p.report ≡ report_of script.now.cfg p.history) }
     ensures accepted { OnOk result (play_fault script.now.cfg script.now.inputs ≡ None) }
-    ensures refused { IfErr result (λ fault. Refuses fault (fault_of_play script.now.cfg script.now.inputs script.now.lines)) }
+    ensures refused { IfErr result (λ fault. RefusesWith fault (fault_of_play script.now.cfg script.now.inputs script.now.lines)) }
 {
     let history = play_inputs(alloc, script)?;
     match report(alloc, &script.cfg, &history) {
@@ -102,7 +102,7 @@ fn play_inputs(alloc: Global, script: &Script) -> Result<History, Fault>
     ensures run { IfOk result (λ history. IsRun script.now.cfg history) }
     ensures messages { IfOk result (λ history. AreValidMessages (sent (past_of history))) }
     ensures accepted { OnOk result (play_fault script.now.cfg script.now.inputs ≡ None) }
-    ensures refused { IfErr result (λ fault. Refuses fault (fault_of_play script.now.cfg script.now.inputs script.now.lines)) }
+    ensures refused { IfErr result (λ fault. RefusesWith fault (fault_of_play script.now.cfg script.now.inputs script.now.lines)) }
 {
     match world::play(alloc, &script.cfg, script.inputs.as_slice()) {
         Ok(history) => Ok(history),
@@ -113,7 +113,7 @@ fn play_inputs(alloc: Global, script: &Script) -> Result<History, Fault>
 /// Why an input is refused, told by its line.
 fn fault_at(lines: &LineNumbers, error: PlayError) -> Fault
     requires { IsWithin (length lines.now) error }
-    ensures { Refuses result (at_line lines.now error) }
+    ensures { RefusesWith result (at_line lines.now error) }
 {
     match error {
         PlayError::NoMessage { at, number, sent } => match lines.get(at as u64) {
@@ -137,7 +137,7 @@ fn fault_at(lines: &LineNumbers, error: PlayError) -> Fault
 fn refused_at(alloc: Global, text: &[u8], line: u32, kind: ScriptKind) -> Fault
     requires size { length text.now ≤ 16777216 }
     requires refused { script_in text.now ≡ Err (line, kind) }
-    ensures { Refuses result (refusal_of text.now) }
+    ensures { RefusesWith result (refusal_of text.now) }
 {
     if !has_head_before(text, line) {
         return Fault::Script { line, kind };

@@ -2,8 +2,8 @@
 
 ghost use Rattle.std.specs.Prelude.{◌≡◌, ℕ, List, false, [], Some, is_some, IsSome, IsTrue, map, string_bytes};
 ghost use Rattle.spec_base.specs.Faults.{Rose};
-ghost use Rattle.speclog.specs.Answers.{status_of, usage_of, usage_place, is_played, fault_of_read, is_read_fault, is_write_fault, is_unwritten, CountsBlame, SpeaksOf};
-ghost use Rattle.speclog.specs.Completeness.{IsPlayed};
+ghost use Rattle.speclog.specs.Answers.{status_of, usage_of, usage_place, has_history, fault_of_read, is_read_fault, is_write_fault, is_unwritten, CountsBlame, SpeaksOf};
+ghost use Rattle.speclog.specs.Completeness.{IsPlayedWhole};
 
 use crate::fault::Fault;
 use crate::input::{ReadError, read_all};
@@ -30,7 +30,7 @@ pub fn top<R: AllocGlobal + Threads + Wait + Sync, S: Source, K: Sink, H: Shelf>
 ) -> Outcome
     requires { (name : List ℕ) → H.is_out shelf.old name ≡ false }
     ensures status { result.status ≡ status_of result.fault }
-    ensures history { is_some result.history ≡ is_played result.fault }
+    ensures history { is_some result.history ≡ has_history result.fault }
     ensures looks { result.looks ≡ [] }
     ensures quiet { result.quiet ≡ false }
 
@@ -42,7 +42,7 @@ pub fn top<R: AllocGlobal + Threads + Wait + Sync, S: Source, K: Sink, H: Shelf>
     ensures read_fault { result.fault ≡ Some Fault.ReadFault → Rose (S.faults source.old) (S.faults source.new) }
     ensures write_fault { result.fault ≡ Some Fault.WriteFault → Rose (K.faults sink.old) (K.faults sink.new) }
     ensures answer { SpeaksOf (S.left source.old) (S.left source.new) (K.taken sink.old) (K.taken sink.new) result.fault result.history }
-    ensures played { IsPlayed (map string_bytes words.now) (S.left source.old) result.fault (Rose (S.faults source.old) (S.faults source.new)) (Rose (K.faults sink.old) (K.faults sink.new)) }
+    ensures played { IsPlayedWhole (map string_bytes words.now) (S.left source.old) result.fault (Rose (S.faults source.old) (S.faults source.new)) (Rose (K.faults sink.old) (K.faults sink.new)) }
     ensures shelf { shelf.new ≡ shelf.old }
 {
     top_play(rt.alloc(), words, source, sink)
@@ -56,7 +56,7 @@ pub fn top_play<S: Source, K: Sink>(
     sink: &mut K,
 ) -> Outcome
     ensures status { result.status ≡ status_of result.fault }
-    ensures history { is_some result.history ≡ is_played result.fault }
+    ensures history { is_some result.history ≡ has_history result.fault }
     ensures looks { result.looks ≡ [] }
     ensures quiet { result.quiet ≡ false }
 
@@ -68,7 +68,7 @@ pub fn top_play<S: Source, K: Sink>(
     ensures read_fault { result.fault ≡ Some Fault.ReadFault → Rose (S.faults source.old) (S.faults source.new) }
     ensures write_fault { result.fault ≡ Some Fault.WriteFault → Rose (K.faults sink.old) (K.faults sink.new) }
     ensures answer { SpeaksOf (S.left source.old) (S.left source.new) (K.taken sink.old) (K.taken sink.new) result.fault result.history }
-    ensures played { IsPlayed (map string_bytes words.now) (S.left source.old) result.fault (Rose (S.faults source.old) (S.faults source.new)) (Rose (K.faults sink.old) (K.faults sink.new)) }
+    ensures played { IsPlayedWhole (map string_bytes words.now) (S.left source.old) result.fault (Rose (S.faults source.old) (S.faults source.new)) (Rose (K.faults sink.old) (K.faults sink.new)) }
 {
     if let Some(word) = misplaced(words) {
         return Outcome::refused(alloc, Fault::Usage { word });

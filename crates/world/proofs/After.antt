@@ -1,43 +1,28 @@
 -- What an entry leaves of each node.
-use Rattle.std.proofs.Common.{◌≡◌, ◌&&◌, Bool, true, false, List, [], ◌∷◌, refl, ap, ◌∙◌}
-use Rattle.std.specs.Prelude.{if◌then◌else◌}
-use Rattle.std.specs.List.{AllByRecursion}
-use Rattle.msg_wire.specs.Nodes.{same_node}
-use Rattle.msg_wire.specs.Valid.{IsValidConfig, IsNodeOf, IsValidEvent}
-use Rattle.net_model.specs.Pasts.{Past}
-use Rattle.node_rules.specs.Nodes.{Node}
-use Rattle.node_rules.specs.Turns.{Turn}
+use Rattle.std.proofs.Common.{◌≡◌, true, false, ◌∷◌, refl, ap}
+use Rattle.world.specs.Names.{same_node, IsValidConfig, IsNodeOf, Past, Node, sequencer_step, replica_step, client_step, any_meaning, consumer_step, NodeId}
+use Rattle.world.specs.Names.{Config, Event, HistoryEntry, IsPastOf}
 use Rattle.app_law.specs.declared.any_app.AnyApp.{AnyApp}
 use Rattle.seq_node.specs.States.{SequencerState}
-use Rattle.seq_node.specs.Steps.{sequencer_step}
 use Rattle.seq_node.specs.Restart as sequencer
-use Rattle.seq_node.proofs.Lives.{restart_is_the_items as sequencer_restarts}
 use Rattle.shard_node.specs.States.{ReplicaState}
-use Rattle.shard_node.specs.Steps.{replica_step}
 use Rattle.shard_node.specs.Restart as replica
-use Rattle.shard_node.proofs.Lives.{restart_is_the_items as replica_restarts}
 use Rattle.client_node.specs.States.{ClientState}
-use Rattle.client_node.specs.Steps.{client_step}
 use Rattle.client_node.specs.Restart as client
-use Rattle.client_node.proofs.Restarts.{restart-items}
-use Rattle.consumer_node.specs.Apps.{any_meaning}
 use Rattle.consumer_node.specs.States.{ConsumerState}
-use Rattle.consumer_node.specs.Steps.{consumer_step}
 use Rattle.consumer_node.specs.Restart as consumer
 use Rattle.world.specs.declared.any_node.AnyNode.TheVariants as any
-use Rattle.runs.specs.Names.{NodeId, Config, Event, HistoryEntry}
 use Rattle.runs.specs.Names.nodes
 use Rattle.runs.specs.Kinds.{sequencer_table, replica_table, client_table, consumer_table, step_at}
-use Rattle.runs.specs.Runs.{IsPastOf}
 use Rattle.world.specs.AnyNodes.{ready, gives_any, leaves_any, is_spent_any, node_after}
-use Rattle.runs.proofs.ConsumerLaws.{consumer_restarts}
 use Rattle.runs.proofs.Restarts.{events_valid, sequencer_in_place, replica_in_place, client_in_place, consumer_in_place}
-use Rattle.runs.proofs.InPlace.{with_event, events_of, RestartsInPlace, own_step, other_step}
+use Rattle.runs.proofs.InPlace.{own_step, other_step}
 
 -- ---- what an entry leaves
 
 -- of its own node what the step leaves
-pub own_after : (cfg : Config) (node : NodeId) (e : HistoryEntry) (past : Past) → IsValidConfig cfg → IsNodeOf cfg node → IsPastOf cfg past → same_node e.node node ≡ true
+pub own_after : (cfg : Config) (node : NodeId) (e : HistoryEntry) (past : Past) → IsValidConfig cfg → IsNodeOf cfg node → IsPastOf cfg past
+    → same_node e.node node ≡ true
     → node_after cfg (e ∷ past) node ≡ leaves_any (node_after cfg past node) e.event
 own_after cfg (nodes.Seq n) e past valid here run own =
     let node : NodeId = nodes.Seq n in
@@ -57,7 +42,8 @@ own_after cfg (nodes.Consumer n) e past valid here run own =
     (own_step (consumer_step any_meaning) (consumer.fresh_node any_meaning cfg node) (consumer.restart_of any_meaning cfg node) node e past (consumer_in_place cfg node valid here) (events_valid cfg node past run) own)
 
 -- of another node what was
-pub other_after : (cfg : Config) (node : NodeId) (e : HistoryEntry) (past : Past) → same_node e.node node ≡ false → node_after cfg (e ∷ past) node ≡ node_after cfg past node
+pub other_after : (cfg : Config) (node : NodeId) (e : HistoryEntry) (past : Past) → same_node e.node node ≡ false
+    → node_after cfg (e ∷ past) node ≡ node_after cfg past node
 other_after cfg (nodes.Seq n) e past other =
     ap (λ (s : Node SequencerState). any.Seq (ready s)) (other_step (sequencer_table cfg (nodes.Seq n)) (nodes.Seq n) e past other)
 other_after cfg (nodes.Shard n side) e past other =

@@ -1,13 +1,13 @@
 -- Flags of which all below a number are set: the first that isn't.
-use Rattle.std.proofs.Common.{◌≡◌, ℕ, zero, suc, ◌+◌, ◌<◌, ◌≤◌, Bool, true, false, not, cond, List, [], ◌∷◌, ◌++◌, length, Option, Some, None, refl, ap, ◌∙◌, inl, inr, arith}
+use Rattle.std.proofs.Common.{◌≡◌, ℕ, zero, suc, ◌+◌, ◌<◌, ◌≤◌, Bool, true, false, not, cond, List, [], ◌∷◌, ◌++◌, length, Option, Some, None, refl, ap, ◌∙◌, arith}
 use Rattle.std.specs.List.{slice_get, position_from}
-use Rattle.std.proofs.lemmas.Bool.{cases_lt}
 use Rattle.std.proofs.lemmas.List.{length-append}
 use Rattle.fix_ante.proofs.Entries.{slice_get-append_left}
 use Rattle.world.specs.Outboxes.{AreSettledBelow}
 
 -- with more flags
-pub still_below : (next : ℕ) (flags later more : List Bool) → later ≡ flags ++ more → next ≤ length flags → AreSettledBelow next flags → AreSettledBelow next later
+pub still_below : (next : ℕ) (flags later more : List Bool) → later ≡ flags ++ more → next ≤ length flags → AreSettledBelow next flags
+    → AreSettledBelow next later
 still_below next flags later more e within below number under =
     ap (λ (xs : List Bool). slice_get xs number) e ∙ slice_get-append_left flags more number (omega (arith, under, within)) ∙ below number under
 
@@ -19,7 +19,8 @@ longer next flags later more e within = omega (arith, ap length e, length-append
 set_first : (b : Bool) (flags : List Bool) (next : ℕ) → AreSettledBelow (suc next) (b ∷ flags) → b ≡ true
 set_first b flags next below = let first : Some b ≡ Some true = below 0 (omega arith) in cc
 
-first_from : (a : ℕ) (flags : List Bool) (next : ℕ) → AreSettledBelow next flags → slice_get flags next ≡ Some false → position_from not a flags ≡ Some (a + next)
+first_from : (a : ℕ) (flags : List Bool) (next : ℕ) → AreSettledBelow next flags → slice_get flags next ≡ Some false
+    → position_from not a flags ≡ Some (a + next)
 first_from a [] next below there = absurd (cc)
 first_from a (b ∷ flags) zero below there =
     let clear : b ≡ false = cc in
@@ -45,16 +46,9 @@ first_open flags next below there =
 pub none_open : (flags : List Bool) (next : ℕ) → length flags ≤ next → AreSettledBelow next flags → position_from not 0 flags ≡ None
 none_open flags next past below = none_from 0 flags (λ k under. below k (omega (arith, under, past)))
 
--- one more is set
-pub below_one_more : (flags : List Bool) (next : ℕ) → AreSettledBelow next flags → slice_get flags next ≡ Some true → AreSettledBelow (next + 1) flags
-below_one_more flags next below here k under =
-    elim (cases_lt k next) [
-      | inl less ↦ below k less
-      | inr above ↦ let same : k ≡ next = omega (arith, under, above) in ap (slice_get flags) same ∙ here
-    ]
-
 -- the first flag that isn't set is one of the flags
-open_at : (b : Bool) (a count number : ℕ) (later : Option ℕ) → (later ≡ Some number → number < a + 1 + count) → cond (not b) (Some a) later ≡ Some number → number < a + suc count
+open_at : (b : Bool) (a count number : ℕ) (later : Option ℕ) → (later ≡ Some number → number < a + 1 + count) → cond (not b) (Some a) later ≡ Some number
+    → number < a + suc count
 open_at true a count number later below e = omega (arith, below e)
 open_at false a count number later below e = let here : a ≡ number = cc in omega (arith, here)
 

@@ -1,25 +1,22 @@
 -- What a player has stays true of it, entry after entry.
-use Rattle.std.proofs.Common.{◌≡◌, ℕ, Bool, false, List, [], ◌∷◌, ◌++◌, length, map, replicate, Option, Some, refl, sym, ap, ◌∙◌, subst, arith}
+use Rattle.std.proofs.Common.{◌≡◌, ℕ, Bool, false, List, [], ◌∷◌, ◌++◌, ◌<◌, length, map, replicate, Option, Some, refl, sym, ap, ◌∙◌, subst, slice_index_or, arith}
 use Rattle.std.specs.Prelude.{slice_set, IsSomeAnd}
 use Rattle.std.specs.List.{slice_get}
-use Rattle.std.proofs.lemmas.Option.{slice_get_within, get_or_from_slice_get}
+use Rattle.std.proofs.lemmas.Option.{slice_get_within, slice_get_read, get_or_from_slice_get}
 use Rattle.std.proofs.lemmas.List.{length-append, length-replicate, reverse-append}
-use Rattle.msg_wire.specs.Nodes.{nodes_of}
-use Rattle.msg_wire.specs.Valid.{IsValidConfig, IsNodeOf, IsValidMessage}
+use Rattle.world.specs.Names.{nodes_of, step_at, entry_made, rank_of, Parts, AreParts, shown_by}
+use Rattle.msg_wire.specs.Valid.{IsValidConfig, IsValidMessage}
 use Rattle.msg_wire.specs.Steps.{AreValidMessages, IsValidStep}
 use Rattle.net_model.specs.Pasts.{Past, past_of, sent}
-use Rattle.node_rules.proofs.Lists.{all_append}
+use Rattle.node_rules.proofs.Lists.{all_append, all_at}
 use Rattle.world.specs.declared.any_node.AnyNode.{AnyNode}
 use Rattle.node_rules.specs.Turns.{empty_step}
 use Rattle.runs.specs.Names.{NodeId, Config, Message, Item, Event, Step, HistoryEntry}
 use Rattle.runs.specs.Names.nodes
 use Rattle.runs.specs.Names.events
-use Rattle.runs.specs.Kinds.{step_at}
-use Rattle.world.specs.Playing.{entry_made}
 use Rattle.world.specs.AnyNodes.{fresh_any, gives_any, leaves_any, is_spent_any, node_after}
-use Rattle.world.specs.Places.{place_of}
-use Rattle.world.specs.Players.{PlayerState, happens, IsPlayed, CanTake}
-use Rattle.world.proofs.Lists.{map_same, all_at}
+use Rattle.world.specs.Players.{PlayerState, happens, IsPlayerOf, CanTake}
+use Rattle.world.proofs.Lists.{map_same}
 use Rattle.runs.proofs.SameNodes.{node_itself}
 use Rattle.world.proofs.After.{gives_after, ready_after}
 use Rattle.world.proofs.NodesAfter.{node_there, nodes_after}
@@ -34,7 +31,7 @@ starts c (nodes.Shard n side) = refl
 starts c (nodes.Client n) = refl
 starts c (nodes.Consumer n) = refl
 
-pub nothing_happened : (c : Config) (made : List AnyNode) → IsValidConfig c → made ≡ map (fresh_any c) (nodes_of c) → IsPlayed c [] made []
+pub nothing_happened : (c : Config) (made : List AnyNode) → IsValidConfig c → made ≡ map (fresh_any c) (nodes_of c) → IsPlayerOf c [] made []
 nothing_happened c made valid fresh = record {
   cfg = valid;
   run = tt;
@@ -50,8 +47,8 @@ abbrev sends_of : Config → Past → NodeId → Event → List Message
 sends_of c past node event = (step_at c node past event).sends
 
 pub happened : (c : Config) (past : Past) (made : List AnyNode) (settled : List Bool) (node : NodeId) (event : Event)
-    → IsPlayed c past made settled → CanTake c past node event → AreValidMessages (step_at c node past event).sends
-    → IsPlayed c (entry_made c past node event ∷ past) (slice_set made (place_of c node) (leaves_any (node_after c past node) event))
+    → IsPlayerOf c past made settled → CanTake c past node event → AreValidMessages (step_at c node past event).sends
+    → IsPlayerOf c (entry_made c past node event ∷ past) (slice_set made (rank_of c node) (leaves_any (node_after c past node) event))
     (settled ++ replicate (length (step_at c node past event).sends) false)
 happened c past made settled node event is can valid = record {
   cfg = is.cfg;
@@ -59,131 +56,99 @@ happened c past made settled node event is can valid = record {
   commands = (can.command, is.commands);
   messages = all_append IsValidMessage (sent past) (sends_of c past node event) is.messages valid;
   nodes_are =
-      ap (λ (all : List AnyNode). slice_set all (place_of c node) (leaves_any (node_after c past node) event)) is.nodes_are
+      ap (λ (all : List AnyNode). slice_set all (rank_of c node) (leaves_any (node_after c past node) event)) is.nodes_are
       ∙ nodes_after c (entry_made c past node event) past is.cfg can.within is.run (node_itself node);
   flags =
       omega (arith, is.flags, length-append settled (replicate (length (sends_of c past node event)) false), length-replicate (length (sends_of c past node event)) false, length-append (sent past) (sends_of c past node event));
 }
 
--- ---- messages
-
-pub valid_message : (c : Config) (past : Past) (made : List AnyNode) (settled : List Bool) (number : ℕ) (m : Message) → IsPlayed c past made settled → slice_get (sent past) number ≡ Some m → IsValidMessage m
-valid_message c past made settled number m is e = all_at IsValidMessage (sent past) number m is.messages e
-
-pub message_within : (c : Config) (past : Past) (made : List AnyNode) (settled : List Bool) (number : ℕ) (m : Message) → IsPlayed c past made settled → slice_get (sent past) number ≡ Some m → IsNodeOf c m.to
-message_within c past made settled number m is e = (all_at (GoesWithin c) (sent past) number m (sent_within c past is.cfg is.run is.commands) e).to
-
 -- ---- in a player
 
 -- the parts of what is played, each by another name
 pub along : (c : Config) (past past' : Past) (made made' : List AnyNode) (settled settled' : List Bool) → past' ≡ past → made' ≡ made → settled' ≡ settled
-    → IsPlayed c past made settled → IsPlayed c past' made' settled'
+    → IsPlayerOf c past made settled → IsPlayerOf c past' made' settled'
 along c past past' made made' settled settled' pasts nodes flags is =
-    subst (λ (x : Past). IsPlayed c x made' settled') (sym pasts)
-    (subst (λ (x : List AnyNode). IsPlayed c past x settled') (sym nodes)
-    (subst (λ (x : List Bool). IsPlayed c past made x) (sym flags) is))
+    subst (λ (x : Past). IsPlayerOf c x made' settled') (sym pasts)
+    (subst (λ (x : List AnyNode). IsPlayerOf c past x settled') (sym nodes)
+    (subst (λ (x : List Bool). IsPlayerOf c past made x) (sym flags) is))
 
--- what a player has that steps change
-pub record Scene : Type 0 where
-  pub history : List HistoryEntry
-  pub made : List AnyNode
-  pub settled : List Bool
+-- a player of these parts is shown as that, and a node of it can take an event
+pub record Begins (s : PlayerState) (i : Parts) (node : NodeId) (event : Event) : Type 0 where
+  pub known : AreParts i
+  pub view : shown_by i ≡ s
+  pub can : CanTake i.cfg (past_of i.history) node event
 
-abbrev pub IsScene : Config → Scene → Type 0
-IsScene c s = IsPlayed c (past_of s.history) s.made s.settled
-
-abbrev entry_with : NodeId → Event → Step → HistoryEntry
-entry_with node event out = record { node = node; event = event; sends = out.sends; marks = out.marks }
-
--- an entry at the end of a history, and what else a step has left
-pub record HasHappened (c : Config) (s : Scene) (node : NodeId) (event : Event) (out : Step) (later : Scene) : Type 0 where
-  pub gives : out ≡ gives_any (node_after c (past_of s.history) node) event
-  pub leaves : later.made ≡ slice_set s.made (place_of c node) (leaves_any (node_after c (past_of s.history) node) event)
-  pub valid : IsValidStep out
-  pub entry : later.history ≡ s.history ++ record { node = node; event = event; sends = out.sends; marks = out.marks } ∷ []
-  pub flags : later.settled ≡ s.settled ++ replicate (length out.sends) false
-
-step_is : (c : Config) (s : Scene) (node : NodeId) (event : Event) (out : Step) (later : Scene) → HasHappened c s node event out later → out ≡ step_at c node (past_of s.history) event
-step_is c s node event out later has = has.gives ∙ gives_after c node (past_of s.history) event
-
-pub past_is : (c : Config) (s : Scene) (node : NodeId) (event : Event) (out : Step) (later : Scene) → HasHappened c s node event out later
-    → past_of later.history ≡ entry_made c (past_of s.history) node event ∷ past_of s.history
-past_is c s node event out later has =
-    ap past_of has.entry
-    ∙ reverse-append s.history (entry_with node event out ∷ [])
-    ∙ ap (λ (o : Step). entry_with node event o ∷ past_of s.history) (step_is c s node event out later has)
-
-pub flags_are : (c : Config) (s : Scene) (node : NodeId) (event : Event) (out : Step) (later : Scene) → HasHappened c s node event out later
-    → later.settled ≡ s.settled ++ replicate (length (step_at c node (past_of s.history) event).sends) false
-flags_are c s node event out later has = has.flags ∙ ap (λ (o : Step). s.settled ++ replicate (length o.sends) false) (step_is c s node event out later has)
-
-pub played_on : (c : Config) (s : Scene) (node : NodeId) (event : Event) (out : Step) (later : Scene) → IsScene c s → CanTake c (past_of s.history) node event → HasHappened c s node event out later → IsScene c later
-played_on c s node event out later is can has =
-    let same = step_is c s node event out later has in
-    along c (entry_made c (past_of s.history) node event ∷ past_of s.history) (past_of later.history) _ later.made _ later.settled
-    (past_is c s node event out later has) has.leaves (flags_are c s node event out later has)
-    (happened c (past_of s.history) s.made s.settled node event is can (subst (λ (o : Step). AreValidMessages o.sends) same has.valid.sends))
-
--- so a player that shows the one shows the other once the event happened
-pub happens_is : (c : Config) (s : Scene) (turn : ℕ) (node : NodeId) (event : Event) (out : Step) (later : Scene) → HasHappened c s node event out later
-    → record { cfg = c; past = past_of later.history; settled = later.settled; turn = turn } ≡ happens node event (record { cfg = c; past = past_of s.history; settled = s.settled; turn = turn })
-happens_is c s turn node event out later has =
-    let made : Past → List Bool → PlayerState = λ past flags. record { cfg = c; past = past; settled = flags; turn = turn } in
-    ap (λ (past : Past). made past later.settled) (past_is c s node event out later has)
-    ∙ ap (made (entry_made c (past_of s.history) node event ∷ past_of s.history)) (flags_are c s node event out later has)
-
--- the node at its place, among those of a player
-pub stands_there : (c : Config) (past : Past) (made : List AnyNode) (settled : List Bool) (node : NodeId) (place : ℕ) → IsPlayed c past made settled → IsNodeOf c node → place ≡ place_of c node
-    → slice_get made place ≡ Some (node_after c past node)
-stands_there c past made settled node place is here at =
-    ap (λ (all : List AnyNode). slice_get all place) is.nodes_are
-    ∙ ap (slice_get (map (node_after c past) (nodes_of c))) at
-    ∙ node_there c past node here
-
--- it is ready
-pub ready_there : (c : Config) (past : Past) (made : List AnyNode) (settled : List Bool) (node : NodeId) (place : ℕ) → IsPlayed c past made settled → IsNodeOf c node → place ≡ place_of c node
-    → IsSomeAnd (slice_get made place) (λ n. is_spent_any n ≡ false)
-ready_there c past made settled node place is here at =
-    let ready : Option AnyNode → Type 0 = λ o. IsSomeAnd o (λ n. is_spent_any n ≡ false) in
-    subst ready (sym (stands_there c past made settled node place is here at)) (ready_after c node past)
-
--- what the calls of a step have left
-pub has_happened : (c : Config) (s : Scene) (node : NodeId) (event : Event) (out : Step) (place sends : ℕ) (later : Scene)
-    → place ≡ place_of c node
-    → slice_get s.made place ≡ Some (node_after c (past_of s.history) node)
-    → IsSomeAnd (slice_get s.made place) (λ n. out ≡ gives_any n event)
-    → IsSomeAnd (slice_get s.made place) (λ n. later.made ≡ slice_set s.made place (leaves_any n event))
-    → IsValidStep out
-    → later.history ≡ s.history ++ record { node = node; event = event; sends = out.sends; marks = out.marks } ∷ []
-    → sends ≡ length out.sends
-    → later.settled ≡ s.settled ++ replicate sends false
-    → HasHappened c s node event out later
-has_happened c s node event out place sends later at there gives leaves valid entry many put =
-    let gives_at : Option AnyNode → Type 0 = λ o. IsSomeAnd o (λ n. out ≡ gives_any n event) in
-    let leaves_at : Option AnyNode → Type 0 = λ o. IsSomeAnd o (λ n. later.made ≡ slice_set s.made place (leaves_any n event)) in
-    record {
-      gives = subst gives_at there gives;
-      leaves = subst leaves_at there leaves ∙ ap (λ (k : ℕ). slice_set s.made k (leaves_any (node_after c (past_of s.history) node) event)) at;
-      valid = valid;
-      entry = entry;
-      flags = put ∙ ap (λ (n : ℕ). s.settled ++ replicate n false) many;
-    }
+pub begins : (s : PlayerState) (i whole : Parts) (node : NodeId) (event : Event) → i ≡ whole → AreParts whole → shown_by whole ≡ s
+    → CanTake s.cfg s.past node event → Begins s i node event
+begins s i whole node event same are view can =
+    let shown : shown_by i ≡ s = ap shown_by same ∙ view in
+    record { known = subst AreParts (sym same) are; view = shown; can = subst (λ (k : PlayerState). CanTake k.cfg k.past node event) (sym shown) can }
 
 -- a message that was sent can be taken by the node that it was sent to
-pub can_take : (c : Config) (past : Past) (made : List AnyNode) (settled : List Bool) (number : ℕ) (m : Message) → IsPlayed c past made settled → slice_get (sent past) number ≡ Some m → CanTake c past m.to (events.Deliver m)
-can_take c past made settled number m is e = record {
-  within = message_within c past made settled number m is e;
-  valid = valid_message c past made settled number m is e;
-  taken_there = tt;
-  comes = (refl, (number, slice_get_within (sent past) number m e, get_or_from_slice_get (sent past) number m m e));
-  command = tt;
-}
+pub begins_message : (s : PlayerState) (i whole : Parts) (messages : List Message) (number : ℕ) (m : Message) → i ≡ whole → AreParts whole → shown_by whole ≡ s
+    → messages ≡ sent (past_of i.history) → number < length (sent s.past) → m ≡ slice_index_or messages number m
+    → Begins s i m.to (events.Deliver m) × (slice_get (sent (past_of i.history)) number ≡ Some m)
+begins_message s i whole messages number m same are view named sent_one is =
+    let known : AreParts i = subst AreParts (sym same) are in
+    let played = known.played in
+    let shown : shown_by i ≡ s = ap shown_by same ∙ view in
+    let all : List Message = sent (past_of i.history) in
+    let within : number < length messages = subst (λ (xs : List Message). number < length xs) (ap (λ (k : PlayerState). sent k.past) (sym shown) ∙ sym named) sent_one in
+    let there : slice_get all number ≡ Some m = ap (λ (xs : List Message). slice_get xs number) (sym named) ∙ slice_get_read messages (length messages) number m refl within is in
+    let can : CanTake i.cfg (past_of i.history) m.to (events.Deliver m) = record {
+      within = (all_at (GoesWithin i.cfg) all number m (sent_within i.cfg (past_of i.history) played.cfg played.run played.commands) there).to;
+      valid = all_at IsValidMessage all number m played.messages there;
+      taken_there = tt;
+      comes = (refl, (number, slice_get_within all number m there, get_or_from_slice_get all number m m there));
+      command = tt;
+    } in
+    (record { known = known; view = shown; can = can }, there)
+
+module _ {s : PlayerState} {i : Parts} {node : NodeId} {event : Event} (b : Begins s i node event) (place : ℕ) (at : place ≡ rank_of i.cfg node) where
+  -- the node stands at its place
+  stands_there : slice_get i.nodes.items place ≡ Some (node_after i.cfg (past_of i.history) node)
+  stands_there =
+      ap (λ (all : List AnyNode). slice_get all place) b.known.played.nodes_are
+      ∙ ap (slice_get (map (node_after i.cfg (past_of i.history)) (nodes_of i.cfg))) at
+      ∙ node_there i.cfg (past_of i.history) node b.can.within
+
+  -- and is ready
+  pub ready_there : IsSomeAnd (slice_get i.nodes.items place) (λ n. is_spent_any n ≡ false)
+  ready_there = subst (λ (o : Option AnyNode). IsSomeAnd o (λ n. is_spent_any n ≡ false)) (sym stands_there) (ready_after i.cfg node (past_of i.history))
+
+  -- what the calls of its step leave is played by the cluster, and shown as what the event makes of the player
+  pub has_happened : (out : Step) (sends : ℕ) (history : List HistoryEntry) (made : List AnyNode) (settled : List Bool)
+      → IsSomeAnd (slice_get i.nodes.items place) (λ n. out ≡ gives_any n event)
+      → IsSomeAnd (slice_get i.nodes.items place) (λ n. made ≡ slice_set i.nodes.items place (leaves_any n event))
+      → IsValidStep out
+      → history ≡ i.history ++ record { node = node; event = event; sends = out.sends; marks = out.marks } ∷ []
+      → sends ≡ length out.sends
+      → settled ≡ i.outbox ++ replicate sends false
+      → IsPlayerOf i.cfg (past_of history) made settled × (record { cfg = i.cfg; past = past_of history; settled = settled; turn = i.turn } ≡ happens node event s)
+  has_happened out sends history made settled gives leaves valid entry many put =
+      let past : Past = past_of i.history in
+      let e : HistoryEntry = entry_made i.cfg past node event in
+      let gives_at : Option AnyNode → Type 0 = λ o. IsSomeAnd o (λ n. out ≡ gives_any n event) in
+      let leaves_at : Option AnyNode → Type 0 = λ o. IsSomeAnd o (λ n. made ≡ slice_set i.nodes.items place (leaves_any n event)) in
+      let same : out ≡ step_at i.cfg node past event = subst gives_at stands_there gives ∙ gives_after i.cfg node past event in
+      let nodes : made ≡ slice_set i.nodes.items (rank_of i.cfg node) (leaves_any (node_after i.cfg past node) event) =
+      subst leaves_at stands_there leaves ∙ ap (λ (k : ℕ). slice_set i.nodes.items k (leaves_any (node_after i.cfg past node) event)) at in
+      let pasts : past_of history ≡ e ∷ past =
+      ap past_of entry ∙ reverse-append i.history (record { node = node; event = event; sends = out.sends; marks = out.marks } ∷ [])
+      ∙ ap (λ (o : Step). record { node = node; event = event; sends = o.sends; marks = o.marks } ∷ past) same in
+      let flags : settled ≡ i.outbox ++ replicate (length e.sends) false =
+      put ∙ ap (λ (n : ℕ). i.outbox ++ replicate n false) many ∙ ap (λ (o : Step). i.outbox ++ replicate (length o.sends) false) same in
+      let player : Past → List Bool → PlayerState = λ past flags. record { cfg = i.cfg; past = past; settled = flags; turn = i.turn } in (
+        along i.cfg (e ∷ past) (past_of history) _ made _ settled pasts nodes flags
+            (happened i.cfg past i.nodes.items i.outbox node event b.known.played b.can (subst (λ (o : Step). AreValidMessages o.sends) same valid.sends)),
+        ap (λ (past : Past). player past settled) pasts ∙ ap (player (e ∷ past)) flags ∙ ap (happens node event) b.view,
+      )
 
 -- ---- between calls
 
-abbrev storing : List Item → Step → Step
-storing stable out = record { stable = stable; sends = out.sends; marks = out.marks }
-
 -- a step whose sends and marks are moved and whose items are dropped gives nothing
-pub emptied : (out moved : Step) (stable : List Item) → moved ≡ record { stable = out.stable; sends = []; marks = [] } → stable ≡ [] → record { stable = stable; sends = moved.sends; marks = moved.marks } ≡ empty_step
-emptied out moved stable is clear = ap (λ (xs : List Item). storing xs moved) clear ∙ ap (storing []) is
+pub emptied : (out moved : Step) (stable : List Item) → moved ≡ record { stable = out.stable; sends = []; marks = [] } → stable ≡ []
+    → record { stable = stable; sends = moved.sends; marks = moved.marks } ≡ empty_step
+emptied out moved stable is clear =
+    let storing : List Item → Step → Step = λ items step. record { stable = items; sends = step.sends; marks = step.marks } in
+    ap (λ (items : List Item). storing items moved) clear ∙ ap (storing []) is

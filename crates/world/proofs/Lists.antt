@@ -1,9 +1,12 @@
 -- Lists: a change at one place, and flags of the numbers of a range.
-use Rattle.std.proofs.Common.{◌≡◌, ℕ, zero, suc, ◌+◌, ◌<◌, ◌≤◌, Bool, false, not, cond, List, [], ◌∷◌, ◌++◌, length, map, replicate, Some, None, refl, sym, ap, ◌∙◌, subst, append_assoc, arith}
+use Rattle.std.proofs.Common.{◌≡◌, ℕ, zero, suc, ◌+◌, ◌<◌, ◌≤◌, Bool, false, not, cond, List, [], ◌∷◌, ◌++◌, length, map, get_or, replicate, Some, None, refl, sym, ap, ◌∙◌, append_assoc, arith}
 use Rattle.std.specs.Prelude.{slice_set, IsSomeAnd}
 use Rattle.std.specs.List.{AllByRecursion, range_with_len, flat_map, slice_get, find, position_from}
-use Rattle.std.proofs.lemmas.List.{append-nil, map_push, replicate_more}
+use Rattle.std.proofs.lemmas.List.{append-nil, map-append, replicate_more}
+use Rattle.std.proofs.lemmas.List.FromFn.{map-range_with_len_more}
+use Rattle.std.proofs.lemmas.Option.{slice_get_read}
 use Rattle.std.proofs.lemmas.List.Concat.{flat_map-append}
+use Rattle.fix_ante.proofs.LocalLemmas.{range_with_len-append}
 
 -- ---- two functions that differ at one place of a list
 
@@ -12,7 +15,8 @@ map_same f g [] same = refl
 map_same f g (x ∷ xs) same =
     ap (λ y. y ∷ map f xs) (same 0 x refl) ∙ ap (λ ys. g x ∷ ys) (map_same f g xs (λ j y e. same (suc j) y e))
 
-pub set_map : {X Y : Type 0} → (f g : X → Y) (xs : List X) (i : ℕ) (x : X) → slice_get xs i ≡ Some x → ((j : ℕ) (y : X) → (j ≡ i → ⊥) → slice_get xs j ≡ Some y → f y ≡ g y)
+pub set_map : {X Y : Type 0} → (f g : X → Y) (xs : List X) (i : ℕ) (x : X) → slice_get xs i ≡ Some x
+    → ((j : ℕ) (y : X) → (j ≡ i → ⊥) → slice_get xs j ≡ Some y → f y ≡ g y)
     → slice_set (map f xs) i (g x) ≡ map g xs
 set_map f g [] i x e same = absurd (cc)
 set_map f g (y ∷ ys) zero x e same =
@@ -24,23 +28,11 @@ set_map f g (y ∷ ys) (suc i) x e same =
 
 -- ---- what holds of each
 
-pub all_at : {X : Type 0} → (P : X → Type 0) (xs : List X) (i : ℕ) (x : X) → AllByRecursion P xs → slice_get xs i ≡ Some x → P x
-all_at P [] i x all e = absurd (cc)
-all_at P (y ∷ ys) zero x all e = let same : y ≡ x = cc in subst P same all.0
-all_at P (y ∷ ys) (suc i) x all e = all_at P ys i x all.1 e
-
 pub all_from : {X : Type 0} → (P : X → Type 0) (xs : List X) → ((i : ℕ) (x : X) → slice_get xs i ≡ Some x → P x) → AllByRecursion P xs
 all_from P [] each = tt
 all_from P (x ∷ xs) each = (each 0 x refl, all_from P xs (λ i y e. each (suc i) y e))
 
 -- ---- flags of numbers
-
-pub ranged : (a n i : ℕ) → i < n → slice_get (range_with_len a n) i ≡ Some (a + i)
-ranged a zero i below = absurd (omega arith)
-ranged a (suc n) zero below = let at : a ≡ a + 0 = omega arith in ap (λ (k : ℕ). Some k) at
-ranged a (suc n) (suc i) below =
-    let at : a + 1 + i ≡ a + suc i = omega arith in
-    ranged (a + 1) n i (omega (arith, below)) ∙ ap (λ (k : ℕ). Some k) at
 
 none_set : (f : ℕ → Bool) (a n : ℕ) → ((k : ℕ) → a ≤ k → f k ≡ false) → map f (range_with_len a n) ≡ replicate n false
 none_set f a zero clear = refl
@@ -49,14 +41,11 @@ none_set f a (suc n) clear =
     ∙ ap (λ bs. false ∷ bs) (none_set f (a + 1) n (λ k above. clear k (omega (arith, above))))
 
 -- flags of more numbers, none of which is set
-pub flags_more : (f : ℕ → Bool) (a n m : ℕ) → ((k : ℕ) → a + n ≤ k → f k ≡ false) → map f (range_with_len a (n + m)) ≡ map f (range_with_len a n) ++ replicate m false
-flags_more f a zero m clear =
-    let none : zero + m ≡ m = omega arith in
-    ap (λ (k : ℕ). map f (range_with_len a k)) none ∙ none_set f a m (λ k above. clear k (omega (arith, above)))
-flags_more f a (suc n) m clear =
-    let more : suc n + m ≡ suc (n + m) = omega arith in
-    ap (λ (k : ℕ). map f (range_with_len a k)) more
-    ∙ ap (λ bs. f a ∷ bs) (flags_more f (a + 1) n m (λ k above. clear k (omega (arith, above))))
+pub flags_more : (f : ℕ → Bool) (a n m : ℕ) → ((k : ℕ) → a + n ≤ k → f k ≡ false)
+    → map f (range_with_len a (n + m)) ≡ map f (range_with_len a n) ++ replicate m false
+flags_more f a n m clear =
+    ap (map f) (sym (range_with_len-append a n m)) ∙ map-append f (range_with_len a n) (range_with_len (a + n) m)
+    ∙ ap (λ bs. map f (range_with_len a n) ++ bs) (none_set f (a + n) m clear)
 
 -- the first number whose flag isn't set
 pub first_unset : (f : ℕ → Bool) (a n : ℕ) → position_from not a (map f (range_with_len a n)) ≡ find (λ k. not (f k)) (range_with_len a n)
@@ -65,40 +54,28 @@ first_unset f a (suc n) = ap (cond (not (f a)) (Some a)) (first_unset f (a + 1) 
 
 -- ---- loops
 
-range_more : (a n : ℕ) → range_with_len a (n + 1) ≡ range_with_len a n ++ (a + n) ∷ []
-range_more a zero = let at : a ≡ a + 0 = omega arith in ap (λ (k : ℕ). k ∷ []) at
-range_more a (suc n) =
-    let more : suc n + 1 ≡ suc (n + 1) = omega arith in
-    let at : a + 1 + n ≡ a + suc n = omega arith in
-    ap (range_with_len a) more ∙ ap (λ ks. a ∷ ks) (range_more (a + 1) n ∙ ap (λ (k : ℕ). range_with_len (a + 1) n ++ k ∷ []) at)
-
 -- a loop that puts something at the end for each number
-pub one_more : {X : Type 0} → (f : ℕ → X) (base now later : List X) (n : ℕ) → now ≡ base ++ map f (range_with_len 0 n) → later ≡ now ++ f n ∷ [] → later ≡ base ++ map f (range_with_len 0 (n + 1))
+pub one_more : {X : Type 0} → (f : ℕ → X) (base now later : List X) (n : ℕ) → now ≡ base ++ map f (range_with_len 0 n) → later ≡ now ++ f n ∷ []
+    → later ≡ base ++ map f (range_with_len 0 (n + 1))
 one_more {X} f base now later n so_far e =
-    let at : 0 + n ≡ n = omega arith in
-    e
-    ∙ ap (λ (xs : List X). xs ++ f n ∷ []) so_far
-    ∙ append_assoc base (map f (range_with_len 0 n)) (f n ∷ [])
-    ∙ ap (λ (xs : List X). base ++ xs)
-    (sym (ap (map f) (range_more 0 n ∙ ap (λ (k : ℕ). range_with_len 0 n ++ k ∷ []) at) ∙ map_push f (range_with_len 0 n) n))
+    e ∙ ap (λ (xs : List X). xs ++ f n ∷ []) so_far ∙ append_assoc base (map f (range_with_len 0 n)) (f n ∷ [])
+    ∙ ap (λ (xs : List X). base ++ xs) (sym (map-range_with_len_more f 0 n n (omega arith)))
 
-pub several_more : {X : Type 0} → (f : ℕ → List X) (base now later : List X) (n : ℕ) → now ≡ base ++ flat_map f (range_with_len 0 n) → later ≡ now ++ f n → later ≡ base ++ flat_map f (range_with_len 0 (n + 1))
+pub several_more : {X : Type 0} → (f : ℕ → List X) (base now later : List X) (n : ℕ) → now ≡ base ++ flat_map f (range_with_len 0 n) → later ≡ now ++ f n
+    → later ≡ base ++ flat_map f (range_with_len 0 (n + 1))
 several_more {X} f base now later n so_far e =
     let at : 0 + n ≡ n = omega arith in
-    e
-    ∙ ap (λ (xs : List X). xs ++ f n) so_far
-    ∙ append_assoc base (flat_map f (range_with_len 0 n)) (f n)
+    e ∙ ap (λ (xs : List X). xs ++ f n) so_far ∙ append_assoc base (flat_map f (range_with_len 0 n)) (f n)
     ∙ ap (λ (xs : List X). base ++ xs)
     (sym
-    (ap (flat_map f) (range_more 0 n ∙ ap (λ (k : ℕ). range_with_len 0 n ++ k ∷ []) at)
+    (ap (flat_map f) (sym (range_with_len-append 0 n 1) ∙ ap (λ (k : ℕ). range_with_len 0 n ++ k ∷ []) at)
     ∙ flat_map-append f (range_with_len 0 n) (n ∷ [])
     ∙ ap (λ (xs : List X). flat_map f (range_with_len 0 n) ++ xs) (append-nil (f n))))
 
-pub one_clear_more : (base now later : List Bool) (n : ℕ) → now ≡ base ++ replicate n false → later ≡ now ++ false ∷ [] → later ≡ base ++ replicate (n + 1) false
+pub one_clear_more : (base now later : List Bool) (n : ℕ) → now ≡ base ++ replicate n false → later ≡ now ++ false ∷ []
+    → later ≡ base ++ replicate (n + 1) false
 one_clear_more base now later n so_far e =
-    e
-    ∙ ap (λ (bs : List Bool). bs ++ false ∷ []) so_far
-    ∙ append_assoc base (replicate n false) (false ∷ [])
+    e ∙ ap (λ (bs : List Bool). bs ++ false ∷ []) so_far ∙ append_assoc base (replicate n false) (false ∷ [])
     ∙ ap (λ (bs : List Bool). base ++ bs) (replicate_more n false)
 
 -- ---- what stands at a place
@@ -112,3 +89,7 @@ pub none_there : {X : Type 0} → (xs : List X) (i : ℕ) → i < length xs → 
 none_there [] i below e = omega (arith, below)
 none_there (x ∷ xs) zero below e = cc
 none_there (x ∷ xs) (suc i) below e = none_there xs i (omega (arith, below)) e
+
+-- what a read gives of a place where something stands
+pub read_there : {X : Type 0} → (xs : List X) (i : ℕ) (x : X) (P : X → Type 0) → IsSomeAnd (slice_get xs i) P → x ≡ get_or xs i x → slice_get xs i ≡ Some x
+read_there xs i x P there is = slice_get_read xs (length xs) i x refl (some_within xs i P there) is

@@ -1,33 +1,22 @@
 -- In a run whose commands are the cluster's, every message goes to a node of the cluster.
-use Rattle.std.proofs.Common.{◌≡◌, ℕ, ◌<◌, ◌==◌, Bool, true, false, List, [], ◌∷◌, ◌++◌, length, refl, sym, subst, inl, inr, arith}
-use Rattle.std.specs.Prelude.{IsTrue, slice_index}
+use Rattle.std.proofs.Common.{◌<◌, Bool, true, false, List, [], ◌∷◌, ◌++◌, refl, sym, subst}
 use Rattle.std.specs.List.{AllByRecursion}
-use Rattle.std.proofs.lemmas.List.Elements.{All-from_recursion, All-contains, All-get_or}
-use Rattle.std.proofs.lemmas.Bool.{or_cases, eqb-true}
-use Rattle.quota_table.specs.Rows.{has_shard}
-use Rattle.msg_wire.specs.Nodes.{same_node}
+use Rattle.std.proofs.lemmas.List.Elements.{All-from_recursion, All-contains}
+use Rattle.world.specs.Names.{same_node, Past, sent, Node, sequencer_step, replica_step, client_step, any_meaning, consumer_step, NodeId, Config, Item, Event}
+use Rattle.world.specs.Names.{step_at}
 use Rattle.msg_wire.specs.Valid.{IsValidConfig, IsNodeOf, IsValidEvent, IsCommandOf}
-use Rattle.net_model.specs.Pasts.{Past, sent}
 use Rattle.net_model.specs.Tables.{Progress, progress_of}
-use Rattle.node_rules.specs.Names.{Row, Command}
+use Rattle.node_rules.specs.Names.{Command}
 use Rattle.node_rules.specs.Names.commands
-use Rattle.node_rules.specs.Nodes.{Node}
 use Rattle.node_rules.specs.Turns.{Turn}
 use Rattle.node_rules.specs.Lives.{life_of}
 use Rattle.node_rules.proofs.Lists.{all_append}
-use Rattle.seq_node.specs.Steps.{sequencer_step}
 use Rattle.seq_node.specs.Restart as sequencer
-use Rattle.shard_node.specs.Steps.{replica_step}
 use Rattle.shard_node.specs.Restart as replica
-use Rattle.client_node.specs.Steps.{client_step}
 use Rattle.client_node.specs.Restart as client
-use Rattle.consumer_node.specs.Apps.{any_meaning}
-use Rattle.consumer_node.specs.Steps.{consumer_step}
 use Rattle.consumer_node.specs.Restart as consumer
-use Rattle.runs.specs.Names.{NodeId, Config, Item, Event}
 use Rattle.runs.specs.Names.nodes
 use Rattle.runs.specs.Names.events
-use Rattle.runs.specs.Kinds.{step_at}
 use Rattle.runs.specs.Runs.{Comes, IsPastOf}
 use Rattle.world.specs.Players.{IsCommandAt, AreCommandsOf}
 use Rattle.runs.proofs.InPlace.{with_event, events_of, table_of, RestartsInPlace, progress_is}
@@ -35,6 +24,7 @@ use Rattle.runs.proofs.Restarts.{events_valid, sequencer_in_place, replica_in_pl
 use Rattle.node_rules.proofs.Within.{CommandHasNodes, GoesWithin, TakesWithin, StaysWithin, IsWithin}
 use Rattle.seq_node.proofs.Within.{HasEntries, sequencer_within}
 use Rattle.shard_node.proofs.Within.{HasShard, replica_within}
+use Rattle.client_node.proofs.Homes.{home-row}
 use Rattle.client_node.proofs.Within.{HasHome, client_within}
 use Rattle.consumer_node.proofs.Within.{HasAny, consumer_within}
 
@@ -50,7 +40,8 @@ life_within c P step fresh (event ∷ taken) keeps start all =
     (keeps (life_of step fresh taken).node event all.0 (life_within c P step fresh taken keeps start all.1)).is
 
 -- what a node of a past sends next
-sends_within : {S : Type 0} → (c : Config) (P : NodeId → S → Type 0) (step : Node S → Event → Turn S) (fresh : Node S) (restart : List Item → Node S) (node : NodeId) (past : Past) (event : Event)
+sends_within : {S : Type 0}
+    → (c : Config) (P : NodeId → S → Type 0) (step : Node S → Event → Turn S) (fresh : Node S) (restart : List Item → Node S) (node : NodeId) (past : Past) (event : Event)
     → RestartsInPlace step fresh restart → AllByRecursion IsValidEvent (events_of node past) → KeepsSteps c S P step → IsWithin c S P fresh
     → AllByRecursion (TakesWithin c) (events_of node past) → TakesWithin c event
     → AllByRecursion (GoesWithin c) (step (progress_of (table_of step fresh restart) node past).state event).sends
@@ -59,24 +50,10 @@ sends_within {S} c P step fresh restart node past event in_place valid keeps sta
     subst at (sym (progress_is step fresh restart node past in_place valid))
     (keeps (life_of step fresh (events_of node past)).node event takes (life_within c P step fresh (events_of node past) keeps start taken)).sends
 
--- ---- nodes at their start
-
-row_within : (c : Config) (rows : List Row) (shard : ℕ) → AllByRecursion (λ (r : Row). r.shard < c.shards) rows → has_shard shard rows ≡ true → shard < c.shards
-row_within c [] shard all has = absurd (cc)
-row_within c (r ∷ rows) shard all has =
-    elim (or_cases (r.shard == shard) (has_shard shard rows) has) [
-      | inl same ↦ omega (arith, all.0, eqb-true r.shard shard same)
-      | inr later ↦ row_within c rows shard all.1 later
-    ]
-
-home_within : (c : Config) (n : ℕ) → IsValidConfig c → n < length c.homes → slice_index c.homes n < c.shards
-home_within c n valid here =
-    row_within c c.table (slice_index c.homes n) valid.rows.have_nodes
-    (All-get_or (λ home. IsTrue (has_shard home c.table)) c.homes n 0 here (All-from_recursion (λ home. IsTrue (has_shard home c.table)) c.homes valid.homes))
-
 -- ---- a step of any node
 
-step_within : (c : Config) (node : NodeId) (past : Past) (event : Event) → IsValidConfig c → IsNodeOf c node → IsPastOf c past → AllByRecursion (TakesWithin c) (events_of node past) → TakesWithin c event
+step_within : (c : Config) (node : NodeId) (past : Past) (event : Event) → IsValidConfig c → IsNodeOf c node → IsPastOf c past
+    → AllByRecursion (TakesWithin c) (events_of node past) → TakesWithin c event
     → AllByRecursion (GoesWithin c) (step_at c node past event).sends
 step_within c (nodes.Seq n) past event valid here run taken takes =
     let node : NodeId = nodes.Seq n in
@@ -89,7 +66,7 @@ step_within c (nodes.Shard n side) past event valid here run taken takes =
 step_within c (nodes.Client n) past event valid here run taken takes =
     let node : NodeId = nodes.Client n in
     sends_within c (HasHome c) client_step (client.fresh_node c node) (client.restart_of c node) node past event (client_in_place c node) (events_valid c node past run)
-    (λ m e t is. client_within c m e valid t is) (record { cfg = refl; me = here; known = tt; own = home_within c n valid here }) taken takes
+    (λ m e t is. client_within c m e valid t is) (record { cfg = refl; me = here; known = tt; own = home-row (λ home. home < c.shards) c.table c.homes n valid.some_shard valid.rows.have_nodes valid.homes }) taken takes
 step_within c (nodes.Consumer n) past event valid here run taken takes =
     let node : NodeId = nodes.Consumer n in
     sends_within c HasAny (consumer_step any_meaning) (consumer.fresh_node any_meaning c node) (consumer.restart_of any_meaning c node) node past event (consumer_in_place c node valid here) (events_valid c node past run)
@@ -101,22 +78,23 @@ command_within : (c : Config) (command : Command) → IsCommandOf c command → 
 command_within c (commands.Table rounds rows) is = is.1.have_nodes
 command_within c (commands.Remove shard) is = tt
 
-takes_within : (c : Config) (past : Past) (node : NodeId) (event : Event) → Comes past node event → IsCommandAt c event → AllByRecursion (GoesWithin c) (sent past) → TakesWithin c event
+takes_within : (c : Config) (past : Past) (node : NodeId) (event : Event) → Comes past node event → IsCommandAt c event
+    → AllByRecursion (GoesWithin c) (sent past) → TakesWithin c event
 takes_within c past node (events.Deliver m) comes command all = (All-contains (GoesWithin c) (sent past) m (All-from_recursion (GoesWithin c) (sent past) all) comes.1).what
 takes_within c past node (events.Command x) comes command all = command_within c x command
-takes_within c past node (events.Submit by body) comes command all = tt
-takes_within c past node events.Tick comes command all = tt
-takes_within c past node events.Restart comes command all = tt
+takes_within c past node _ comes command all = tt
 
 all_first : {X : Type 0} → (P : X → Type 0) (xs ys : List X) → AllByRecursion P (xs ++ ys) → AllByRecursion P xs
 all_first P [] ys all = tt
 all_first P (x ∷ xs) ys all = (all.0, all_first P xs ys all.1)
 
-taken_if : (c : Config) (own : Bool) (event : Event) (taken : List Event) → TakesWithin c event → AllByRecursion (TakesWithin c) taken → AllByRecursion (TakesWithin c) (with_event own event taken)
+taken_if : (c : Config) (own : Bool) (event : Event) (taken : List Event) → TakesWithin c event → AllByRecursion (TakesWithin c) taken
+    → AllByRecursion (TakesWithin c) (with_event own event taken)
 taken_if c true event taken here before = (here, before)
 taken_if c false event taken here before = before
 
-taken_within : (c : Config) (node : NodeId) (past : Past) → IsPastOf c past → AreCommandsOf c past → AllByRecursion (GoesWithin c) (sent past) → AllByRecursion (TakesWithin c) (events_of node past)
+taken_within : (c : Config) (node : NodeId) (past : Past) → IsPastOf c past → AreCommandsOf c past → AllByRecursion (GoesWithin c) (sent past)
+    → AllByRecursion (TakesWithin c) (events_of node past)
 taken_within c node [] run commands_are all = tt
 taken_within c node (e ∷ past) run commands_are all =
     let before = all_first (GoesWithin c) (sent past) e.sends all in

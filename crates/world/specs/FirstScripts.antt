@@ -39,5 +39,7 @@ pub record FirstScripts : Type 0 where
   pub drain_makes : history_of single drained ≡ drained_steps
   -- two entries, and one past the limit
   pub too_long : play_fault single (inputs.Submit 0 [] ∷ inputs.Lose 0 ∷ inputs.Drain 200000 ∷ []) ≡ Some (TooLong 2)
+  -- more than a line of a script can say
+  pub far_too_long : play_fault single (inputs.Drain 4000000000 ∷ []) ≡ Some (TooLong 0)
   -- a message that isn't there is told before the length
   pub lost_too_early : play_fault single (inputs.Lose 0 ∷ inputs.Drain 200000 ∷ []) ≡ Some (NoMessage 0 0 0)

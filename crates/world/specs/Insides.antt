@@ -5,7 +5,7 @@ use Rattle.msg_wire.specs.Nodes.{nodes_of}
 use Rattle.node_rules.specs.Turns.{empty_step}
 use Rattle.world.specs.declared.player.Parts.{Parts}
 use Rattle.world.specs.declared.player.Player.TheInside.{Inside}
-use Rattle.world.specs.Players.{PlayerState, IsPlayed}
+use Rattle.world.specs.Players.{PlayerState, IsPlayerOf}
 
 abbrev pub shown_by : Parts → PlayerState
 shown_by p = record { cfg = p.cfg; past = past_of p.history; settled = p.outbox; turn = p.turn }
@@ -16,7 +16,7 @@ player_of i = shown_by i.parts.value
 pub record AreParts (p : Parts) : Type 0 where
   pub order : p.order.items ≡ nodes_of p.cfg
   pub turn : p.turn < length (nodes_of p.cfg)
-  pub played : IsPlayed p.cfg (past_of p.history) p.nodes.items p.outbox
+  pub played : IsPlayerOf p.cfg (past_of p.history) p.nodes.items p.outbox
   pub between : p.step ≡ empty_step
 
 abbrev pub IsPlayer : Inside → Type 0

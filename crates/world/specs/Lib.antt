@@ -6,3 +6,4 @@ pub mod Outboxes
 pub mod Players
 pub mod Insides
 pub mod PlayErrors
+pub mod Names

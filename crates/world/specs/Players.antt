@@ -87,7 +87,7 @@ abbrev pub AreCommandsOf : Config → Past → Type 0
 AreCommandsOf c = AllByRecursion (λ (e : HistoryEntry). IsCommandAt c e.event)
 
 -- the past is a run's; each node is as the past leaves it; each message is valid, and its flag is kept
-pub record IsPlayed (c : Config) (past : Past) (made : List AnyNode) (settled : List Bool) : Type 0 where
+pub record IsPlayerOf (c : Config) (past : Past) (made : List AnyNode) (settled : List Bool) : Type 0 where
   pub cfg : IsValidConfig c
   pub run : IsPastOf c past
   pub commands : AreCommandsOf c past

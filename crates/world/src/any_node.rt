@@ -76,9 +76,9 @@ impl NodeModel for AnyNode {
         out: &mut Step,
     ) -> Result<(), OutOfMemory> {
         match self {
-            AnyNode::Seq(node) => node.step_into(event, out),
-            AnyNode::Shard(node) => node.step_into(event, out),
-            AnyNode::Client(node) => node.step_into(event, out),
+            AnyNode::Seq(node) => node.step_into(alloc, event, out),
+            AnyNode::Shard(node) => node.step_into(alloc, event, out),
+            AnyNode::Client(node) => node.step_into(alloc, event, out),
             AnyNode::Consumer(node) => node.step_into(alloc, event, out),
         }
     }
@@ -90,9 +90,9 @@ impl NodeModel for AnyNode {
         out: &mut Step,
     ) -> Result<(), OutOfMemory> {
         match self {
-            AnyNode::Seq(node) => node.deliver_into(message, out),
-            AnyNode::Shard(node) => node.deliver_into(message, out),
-            AnyNode::Client(node) => node.deliver_into(message, out),
+            AnyNode::Seq(node) => node.deliver_into(alloc, message, out),
+            AnyNode::Shard(node) => node.deliver_into(alloc, message, out),
+            AnyNode::Client(node) => node.deliver_into(alloc, message, out),
             AnyNode::Consumer(node) => node.deliver_into(alloc, message, out),
         }
     }

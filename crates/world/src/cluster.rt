@@ -7,7 +7,7 @@ ghost use Rattle.msg_wire.specs.Valid.{IsValidConfig, IsNodeOf, IsValidMessage, 
 ghost use Rattle.node_rules.specs.Turns.{empty_step};
 ghost use Rattle.world.specs.AnyNodes.{fresh_any, gives_any, leaves_any, is_spent_any};
 ghost use Rattle.runs.specs.Names.events;
-ghost use Rattle.world.specs.Places.{place_of};
+ghost use Rattle.world.specs.Places.{rank_of};
 
 use crate::any_node::AnyNode;
 use msg_wire::{Config, Event, Message, Step};
@@ -79,7 +79,7 @@ fn push_consumers(order: &mut Vec<NodeId>, cfg: &Config) -> Result<(), OutOfMemo
 pub(crate) fn place_of(cfg: &Config, node: NodeId) -> usize
     requires valid { IsValidConfig cfg.now }
     requires node { IsNodeOf cfg.now node }
-    ensures { result ≡ place_of cfg.now node }
+    ensures { result ≡ rank_of cfg.now node }
 {
     let replicas = usize::from(cfg.seqs);
     let clients = replicas + 2 * usize::from(cfg.shards);

@@ -57,6 +57,9 @@ impl Outbox {
         ensures { self.new ≡ slice_set self.old number true }
     {
         self.settled[number] = true;
+        if number == self.next {
+            self.next += 1;
+        }
     }
 
     /// The least number of a message that is not settled.

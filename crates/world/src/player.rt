@@ -16,7 +16,6 @@ use crate::copies::{copy_of, copy_of_command};
 use crate::outbox::Outbox;
 use msg_wire::{Command, Config, Event, Input, Step};
 use net_model::History;
-use node_rules::empty_step;
 use quota_table::OutOfMemory;
 use record_codec::Body;
 use spec_base::NodeId;
@@ -78,7 +77,7 @@ impl Player {
             history: History::new(alloc),
             outbox: Outbox::new(alloc),
             turn: 0,
-            step: empty_step(alloc),
+            step: Step::new(alloc),
         };
         let parts = Box::new(alloc, parts)?;
         Ok(Player { parts })
@@ -128,6 +127,15 @@ impl Player {
 impl Player {
     /// A node takes an event.
     fn happen(self, alloc: Global, node: NodeId, event: Event) -> Result<Player, OutOfMemory>
+        requires { CanTake self.cfg self.past node event }
+        ensures { IfOk result (λ player. player ≡ happens node event self) }
+    {
+        self.happen_here(alloc, node, event)
+    }
+
+    /// As `happen`, in place: a drain, which knows that the event is a tick, passes over what other events need.
+    #[inline(always)]
+    fn happen_here(self, alloc: Global, node: NodeId, event: Event) -> Result<Player, OutOfMemory>
         requires { CanTake self.cfg self.past node event }
         ensures { IfOk result (λ player. player ≡ happens node event self) }
     {
@@ -209,7 +217,7 @@ impl Player {
         let parts = &*self.parts;
         let node = parts.order[parts.turn];
         let next = (parts.turn + 1) % parts.order.len();
-        self.turn_to(next).happen(alloc, node, Event::Tick)
+        self.turn_to(next).happen_here(alloc, node, Event::Tick)
     }
 
     /// The turn goes to the node at a place.

@@ -9,7 +9,8 @@ valid-both : (xs ys : List Message) → AreValidMessages xs → AreValidMessages
 valid-both [] ys h k = k
 valid-both (x ∷ xs) ys h k = (h.0, valid-both xs ys h.1 k)
 
-valid-more : (history : List HistoryEntry) (e : HistoryEntry) → AreValidMessages e.sends → AreValidMessages (sent (past_of history)) → AreValidMessages (sent (past_of (history ++ e ∷ [])))
+valid-more : (history : List HistoryEntry) (e : HistoryEntry) → AreValidMessages e.sends → AreValidMessages (sent (past_of history))
+    → AreValidMessages (sent (past_of (history ++ e ∷ [])))
 valid-more history e here earlier =
     subst (λ past. AreValidMessages (sent past)) (sym (reverse-append history (e ∷ []))) (valid-both (sent (past_of history)) e.sends earlier here)
 

@@ -1,19 +1,15 @@
-use Rattle.std.proofs.Common.{◌≡◌, Some, refl, ap}
+use Rattle.std.proofs.Common.{ap}
 use Rattle.std.specs.Prelude.{slice_set}
-use Rattle.std.specs.List.{slice_get}
-use Rattle.std.proofs.lemmas.Option.{slice_get_read}
 use Rattle.std.proofs.lemmas.Result.{on_ok_weaker}
-use Rattle.world.proofs.Lists.{some_within}
+use Rattle.world.proofs.Lists.{read_there}
 use Rattle.world.proofs.cluster.deliver_at.Goals as goal
 
 pub returns-clause-gives : goal.returns-clause-gives
 returns-clause-gives c =
-    let there : slice_get c.args.made.now.items c.args.place ≡ Some c.index_mut-node.result.now =
-    slice_get_read c.args.made.now.items _ c.args.place c.index_mut-node.result.now refl (some_within c.args.made.now.items c.args.place _ c.requires.there) c.index_mut-node.ensures.value in
+    let there = read_there c.args.made.now.items c.args.place c.index_mut-node.result.now _ c.requires.there c.index_mut-node.ensures.value in
     on_ok_weaker c.deliver_into.result (λ e. rw there e) c.deliver_into.ensures.gives
 
 pub returns-clause-leaves : goal.returns-clause-leaves
 returns-clause-leaves c =
-    let there : slice_get c.args.made.now.items c.args.place ≡ Some c.index_mut-node.result.now =
-    slice_get_read c.args.made.now.items _ c.args.place c.index_mut-node.result.now refl (some_within c.args.made.now.items c.args.place _ c.requires.there) c.index_mut-node.ensures.value in
+    let there = read_there c.args.made.now.items c.args.place c.index_mut-node.result.now _ c.requires.there c.index_mut-node.ensures.value in
     on_ok_weaker c.deliver_into.result (λ e. rw there (ap (slice_set c.args.made.now.items c.args.place) e)) c.deliver_into.ensures.leaves

@@ -9,5 +9,6 @@ returns c = record {
   next_is_refused = refl;
   drain_makes = refl;
   too_long = refl;
+  far_too_long = refl;
   lost_too_early = refl;
 }

@@ -10,7 +10,8 @@ use Rattle.world.specs.Players.{PlayerState, happens, settles, delivers}
 use Rattle.world.proofs.Lists.{none_there}
 use Rattle.world.proofs.player.Player.deliver.Goals as goal
 
-delivered : {E : Type 0} → (r : Result PlayerState E) (number : ℕ) (s t : PlayerState) (message : Option Message) → slice_get (sent s.past) number ≡ message → number < length (sent s.past) → t ≡ settles number s
+delivered : {E : Type 0} → (r : Result PlayerState E) (number : ℕ) (s t : PlayerState) (message : Option Message) → slice_get (sent s.past) number ≡ message
+    → number < length (sent s.past) → t ≡ settles number s
     → ((m : Message) → slice_get (sent t.past) number ≡ Some m → IfOk r (λ p. p ≡ happens m.to (events.Deliver m) t)) → IfOk r (λ p. p ≡ delivers number s)
 delivered r number s t None there within is made = absurd (none_there (sent s.past) number within there)
 delivered r number s t (Some m) there within is made =

@@ -26,13 +26,13 @@ invariant_of-result c =
     let order : c.in_ok-order.order.items ≡ nodes_of cfg = c.in_ok-order.ensures ∙ ap nodes_of same in
     let made : c.in_ok-nodes.nodes.items ≡ map (fresh_any cfg) (nodes_of cfg) =
     c.in_ok-nodes.ensures ∙ ap (map (fresh_any c.args.cfg.now)) (c.as_slice.ensures.value ∙ c.in_ok-order.ensures) ∙ ap (λ (d : Config). map (fresh_any d) (nodes_of d)) same in
-    let parts : AreParts (record { cfg = cfg; order = c.in_ok-order.order; nodes = c.in_ok-nodes.nodes; history = c.new.result; outbox = c.new-2.result; turn = 0; step = c.empty_step.result }) = record {
+    let parts : AreParts (record { cfg = cfg; order = c.in_ok-order.order; nodes = c.in_ok-nodes.nodes; history = c.new.result; outbox = c.new-2.result; turn = 0; step = c.new-3.result }) = record {
       order = order;
       turn = place_within cfg (nodes.Seq 0) (some_sequencer cfg valid);
       played =
           along cfg [] (past_of c.new.result) c.in_ok-nodes.nodes.items c.in_ok-nodes.nodes.items [] c.new-2.result
           (ap past_of c.new.ensures) refl c.new-2.ensures
           (nothing_happened cfg c.in_ok-nodes.nodes.items valid made);
-      between = c.empty_step.ensures;
+      between = c.new-3.ensures;
     } in
     subst AreParts (sym c.in_ok-parts.ensures.ok) parts

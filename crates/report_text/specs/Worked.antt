@@ -49,6 +49,6 @@ of_mixed =
     ++ codes "consumer k0 confirmed 2 applied 2 early 1 undone 2 notices 1\n" ++ codes "notice k0 0\n" ++ codes "out k0 5\n" ++ codes "state k0 sum 5 count 1\n"
     ++ codes "client c0 submitted 1 acked 1\n" ++ codes "ack c0 0 0\n" ++ codes "differ 1\n"
 
-pub record Rows : Type 0 where
+pub record Worked : Type 0 where
   pub of_nothing : report_of single [] ≡ nothing_happened
   pub of_each_line : report_of pair mixed ≡ of_mixed
