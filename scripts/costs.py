@@ -2,14 +2,17 @@
 """What the crates cost: the table of docs/PERFORMANCE.md, by lines and by processor minutes.
 
     scripts/costs.py                   runs `rt ci --anew` on a copy of this checkout, watches it and prints the table
-    scripts/costs.py --write           and puts it into docs/PERFORMANCE.md, between its two marks
-    scripts/costs.py --run COMMAND..   watches another command, here; what it doesn't do stays empty in the table
+    scripts/costs.py NAME..            the same with `rt ci --anew NAME..`: these crates and those below them. The figures of the others are those
+                                       that the page has
+    scripts/costs.py --lines           runs nothing: new lines, and the figures that the page has
+    scripts/costs.py --run COMMAND..   watches another command, here; the figures of what it doesn't do are those that the page has
+    scripts/costs.py --write ..        each of these, and puts the table into docs/PERFORMANCE.md, between its two marks
 
-How it measures. Twice a second it reads /proc for every process below the command, and keeps for each the processor time (user and
-system) that it last had. A process of the prover names its crate; it is a try of an edit where it works in a folder rt-edit-*, a
-proof of tests where it was given --test, and else a proof of the crate. So each process may lack half a second. The rest (rt
-itself, the compilers, the tests as they run) stands below the table. Nothing else should run meanwhile, as processors that are
-shared take longer for the same work. --anew takes nothing from earlier runs.
+How it measures. It counts processor time (user and system), not time by the clock, so other work on the machine doesn't count: it costs a few
+percent at most, through caches and processors that are shared. Five times a second it reads /proc for every process below the command, and keeps for
+each the time that it last had. A process of the prover names its crate; it is a try of an edit where it works in a folder rt-edit-*, a proof of tests
+where it was given --test, and else a proof of the crate. So each process may lack a fifth of a second. What the kernel counted of all processes, less
+these, is the rest, which stands below the table: rt itself, the compilers, the tests as they run. --anew takes nothing from earlier runs.
 
 Lines are those of the files: src without tests, specs, proofs, and tests (src/tests.rt, src/tests/, and a module `tests` at
 a file's end). Edits are counted in must-fail/, which the gate tries, and edits/, which it doesn't. A crate's chain is the
@@ -17,6 +20,8 @@ greatest sum of the proofs' minutes along crates.txt, its own included: no numbe
 """
 
 import os
+import re
+import resource
 import shutil
 import subprocess
 import sys
@@ -99,7 +104,7 @@ def work_of(pid):
 
 def watched(command, folder):
     """Runs the command; returns the seconds of each crate and kind, those of all else, the seconds by the clock, and the status."""
-    began = time.time()
+    began, before = time.time(), resource.getrusage(resource.RUSAGE_CHILDREN)
     started = subprocess.Popen(command, cwd=folder, stdin=subprocess.DEVNULL)
     seconds, work = {}, {}
     while started.poll() is None:
@@ -113,14 +118,24 @@ def watched(command, folder):
             seconds[pid] = max(seconds.get(pid, 0), now[pid][1])
             # A process that is there may become the prover later.
             work[pid] = work_of(pid) or work.get(pid)
-        time.sleep(0.5)
-    spent, rest = {}, 0
+        time.sleep(0.2)
+    after = resource.getrusage(resource.RUSAGE_CHILDREN)
+    spent = {}
     for pid, cost in seconds.items():
-        if work[pid] is None:
-            rest += cost
-        else:
+        if work[pid] is not None:
             spent[work[pid]] = spent.get(work[pid], 0) + cost
-    return spent, rest, time.time() - began, started.returncode
+    total = after.ru_utime + after.ru_stime - before.ru_utime - before.ru_stime
+    return spent, max(total - sum(spent.values()), 0), time.time() - began, started.returncode
+
+
+def known_before():
+    """The seconds of each crate and kind that the page has."""
+    with open(PAGE, encoding="utf-8") as it:
+        page = it.read()
+    found = {}
+    for name, *cells in re.findall(r"^\| `(\w+)` \|" + r"[^|]*\|" * 5 + r" ([\d.]*) \|" * 3, page, re.MULTILINE):
+        found.update({(name, kind): float(cell) * 60 for kind, cell in zip(KINDS, cells) if cell})
+    return found
 
 
 def chains(below, spent):
@@ -142,7 +157,7 @@ def minutes(seconds):
     return f"{seconds / 60:.1f}" if seconds else ""
 
 
-def table(below, spent, rest, clock, what):
+def table(below, spent):
     found = chains(below, spent)
     lines = [
         "| crate | src | specs | proofs | tests | edits (gate, others) | proof | its tests | its edits | chain |",
@@ -164,30 +179,44 @@ def table(below, spent, rest, clock, what):
     way = [last]
     while found[way[-1]][1]:
         way.append(found[way[-1]][1])
-    lines += [
-        "",
-        f"Processor minutes, by `{what}` on {os.cpu_count()} processors, which took {clock / 60:.0f} minutes by the clock; {rest / 60:.0f} more processor",
-        "minutes went into all that is no proof: the compilers, the tests and programs as they run, rt itself. `scripts/costs.py` says how it measures.",
-        f"The longest chain, {found[last][0] / 60:.0f} minutes: {', '.join(f'`{it}`' for it in reversed(way))}.",
-    ]
+    lines += ["", f"The longest chain, {found[last][0] / 60:.0f} minutes: {', '.join(f'`{it}`' for it in reversed(way))}."]
     return "\n".join(lines)
+
+
+def told(rest, clock, what):
+    """How the figures came about."""
+    return (
+        f"Processor minutes, last by `{what}` on {os.cpu_count()} processors, which took {clock / 60:.0f} minutes by the clock; {rest / 60:.0f} more\n"
+        "processor minutes went into all that is no proof: the compilers, the tests and programs as they run, rt itself. `scripts/costs.py` says how it\n"
+        "measures."
+    )
+
+
+def copied(command):
+    """Watches the command on a copy of this checkout."""
+    with tempfile.TemporaryDirectory(prefix="speclog-costs-") as room:
+        shutil.copytree(f"{ROOT}/crates", f"{room}/crates", ignore=shutil.ignore_patterns("out"))
+        for file in ("crates.txt", "HANDLES"):
+            shutil.copy(f"{ROOT}/{file}", room)
+        return watched(command, room)
 
 
 def main(words):
     write = "--write" in words[:1]
     words = words[1:] if write else words
-    if words and words[0] != "--run" or words == ["--run"]:
+    below = crates()
+    if words[:1] == ["--lines"]:
+        spent, ways, status = {}, "", 0
+    elif words[:1] == ["--run"] and words[1:]:
+        spent, rest, clock, status = watched(words[1:], ROOT)
+        ways = told(rest, clock, " ".join(words[1:]))
+    elif all(it in below for it in words):
+        command = ["rt", "ci", "--anew", *words]
+        spent, rest, clock, status = copied(command)
+        ways = told(rest, clock, " ".join(command))
+    else:
         sys.exit(__doc__)
-    with tempfile.TemporaryDirectory(prefix="speclog-costs-") as room:
-        if words:
-            command, folder = words[1:], ROOT
-        else:
-            command, folder = ["rt", "ci", "--anew"], room
-            shutil.copytree(f"{ROOT}/crates", f"{room}/crates", ignore=shutil.ignore_patterns("out"))
-            for file in ("crates.txt", "HANDLES"):
-                shutil.copy(f"{ROOT}/{file}", room)
-        spent, rest, clock, status = watched(command, folder)
-    made = table(crates(), spent, rest, clock, " ".join(command))
+    made = table(below, {**known_before(), **spent}) + (f"\n\n{ways}" if ways else "")
     print(made)
     if status:
         sys.exit(f"costs: the command ended with status {status}, so the table is not whole")
