@@ -5,19 +5,24 @@
 
 PROGRAM is crates/speclog/out/speclog after a build; the scripts are left in FOLDER where one is named. Instructions are
 those that `valgrind --tool=callgrind` counts, the same at each run ('-' where valgrind is not here). A time is the least of
-21 runs, memory the greatest resident size of one run, faults the least minor page faults of one. Behind instructions and
+21 runs, memory the resident size at its greatest, faults the least minor page faults of one. Behind instructions and
 memory stands their ratio to those of a plain model of the same protocol without any proof (PLAIN), which were measured once
 with the same scripts.
 """
+import fcntl
 import os
 import re
+import resource
 import shutil
+import struct
 import subprocess
 import sys
 import tempfile
+import termios
 import time
 
 RUNS = 21
+PAGE = 4096
 # Of the plain model: millions of instructions, and the greatest resident size in MB.
 PLAIN = {
     "idle": (89, 23),
@@ -85,7 +90,31 @@ def run(program, path):
         took = time.perf_counter() - begin
     if status != 0:
         sys.exit(f"{path}: status {status}")
-    return took, usage.ru_maxrss / 1024, usage.ru_minflt
+    return took, usage.ru_minflt
+
+
+def memory(program, path):
+    """The greatest resident size in MB, read while the program waits to write more of its report than a page.
+
+    The figure that the system tells after the end is no less than that of this script, which started the program. A report
+    that fits into a page is out before it is read; then it is that figure.
+    """
+    out, into = os.pipe()
+    fcntl.fcntl(into, fcntl.F_SETPIPE_SZ, PAGE)
+    with open(path, "rb") as script:
+        child = subprocess.Popen([program, "play"], stdin=script, stdout=into)
+    os.close(into)
+    size = None
+    while size is None and child.poll() is None:
+        waiting = struct.unpack("i", fcntl.ioctl(out, termios.FIONREAD, b"    "))[0]
+        if waiting == PAGE:
+            with open(f"/proc/{child.pid}/status", encoding="ascii") as status:
+                size = int(re.search(r"VmHWM:\s+(\d+)", status.read()).group(1)) / 1024
+    while os.read(out, 1 << 20):
+        pass
+    os.close(out)
+    child.wait()
+    return size if size is not None else resource.getrusage(resource.RUSAGE_CHILDREN).ru_maxrss / 1024
 
 
 def instructions(program, path):
@@ -116,11 +145,11 @@ def main():
             with open(path, "w", encoding="ascii") as script:
                 script.write("\n".join(lines) + "\n")
             runs = [run(program, path) for _ in range(RUNS)]
-            took, size = min(run[0] for run in runs), max(run[1] for run in runs)
+            took, size = min(run[0] for run in runs), memory(program, path)
             counted = figures[name] = instructions(program, path)
             plain = PLAIN.get(name, (None, None))
             count = "-" if counted is None else f"{counted:.1f} M {ratio(counted, plain[0]):6}"
-            print(f"{name:14} {count:>20} {took * 1000:7.1f} ms {size:7.1f} MB {ratio(size, plain[1]):6} {min(run[2] for run in runs):8}")
+            print(f"{name:14} {count:>20} {took * 1000:7.1f} ms {size:7.1f} MB {ratio(size, plain[1]):6} {min(run[1] for run in runs):8}")
         if figures["whole"] is not None:
             print(f"ten times the entries take {figures['whole'] / figures['tenth']:.2f} times the instructions")
 
