@@ -1,0 +1,15 @@
+pub mod Fronts
+pub mod Coming
+pub mod Said
+pub mod Backups
+pub mod Growing
+pub mod Told
+pub mod Reports
+pub mod GoodValues
+pub mod Wishes
+pub mod ReplicaSteps
+pub mod Promising
+pub mod Primaries
+pub mod Leases
+pub mod Leasing
+pub mod LeasedPromises

@@ -1,0 +1,5 @@
+use Rattle.safety_logs.proofs.Growing as lemma
+use Rattle.safety_logs.proofs.laws.held_is_common.Goals as goal
+
+pub returns : goal.returns
+returns c = lemma.held_is_common

@@ -1,0 +1,5 @@
+use Rattle.safety_logs.proofs.Said as lemma
+use Rattle.safety_logs.proofs.laws.logs_tell.Goals as goal
+
+pub returns : goal.returns
+returns c = lemma.logs_tell

@@ -1,0 +1,5 @@
+use Rattle.safety_logs.proofs.Told as lemma
+use Rattle.safety_logs.proofs.laws.replicateds_tell.Goals as goal
+
+pub returns : goal.returns
+returns c = lemma.replicateds_tell

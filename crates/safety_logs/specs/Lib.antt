@@ -1,0 +1,4 @@
+pub mod Counting
+pub mod LogClauses
+pub mod Cuts
+pub mod Held
