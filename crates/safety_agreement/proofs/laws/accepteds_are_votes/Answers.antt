@@ -1,0 +1,5 @@
+use Rattle.safety_agreement.proofs.Reading as lemma
+use Rattle.safety_agreement.proofs.laws.accepteds_are_votes.Goals as goal
+
+pub returns : goal.returns
+returns c = lemma.accepteds_are_votes

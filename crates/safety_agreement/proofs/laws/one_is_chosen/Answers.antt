@@ -1,0 +1,5 @@
+use Rattle.safety_agreement.proofs.Reading as lemma
+use Rattle.safety_agreement.proofs.laws.one_is_chosen.Goals as goal
+
+pub returns : goal.returns
+returns c = lemma.one_is_chosen
