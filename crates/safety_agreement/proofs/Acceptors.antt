@@ -25,7 +25,7 @@ use Rattle.safety_frame.proofs.Names.{states_named}
 use Rattle.safety_frame.proofs.Acceptors.{acceptors_by_items}
 use Rattle.safety_frame.proofs.Pasts.{own_items, other_items}
 use Rattle.safety_frame.proofs.Inductions.{OfStates, every_state}
-use Rattle.safety_agreement.specs.EveryRun.{OfEveryRun}
+use Rattle.safety_frame.specs.EveryRun.{OfEveryRun}
 use Rattle.safety_agreement.specs.Acceptors.{HasLast, AcceptorIsItems}
 use Rattle.safety_agreement.proofs.Pushed.{IsApart, apart_pushed, promise_at, vote_at}
 

@@ -22,7 +22,7 @@ use Rattle.safety_frame.proofs.Senders.{SendsKeep, every_sent}
 use Rattle.safety_frame.proofs.StableItems.{known_is}
 use Rattle.safety_frame.proofs.StableParts.{sequencer_known}
 use Rattle.safety_frame.proofs.Heeding.{messages_are_heeded}
-use Rattle.safety_agreement.specs.EveryRun.{OfEveryRun}
+use Rattle.safety_frame.specs.EveryRun.{OfEveryRun}
 use Rattle.safety_agreement.specs.Decideds.{DecidedsAreKnown}
 
 -- of what a sequencer sends

@@ -20,7 +20,7 @@ use Rattle.runs.specs.Runs.{Comes as ComesIn, IsPastOf}
 use Rattle.safety_frame.proofs.Inductions.{OfStates, every_state}
 use Rattle.safety_frame.proofs.Names.{IsNamed, states_named}
 use Rattle.safety_frame.proofs.NodeKinds.{after, sequencers}
-use Rattle.safety_agreement.specs.EveryRun.{OfEveryRun}
+use Rattle.safety_frame.specs.EveryRun.{OfEveryRun}
 use Rattle.safety_agreement.specs.Heard.{IsPromised, IsReported, HasPromises, AttemptsHavePromises}
 use Rattle.safety_agreement.proofs.Standing.{over_or_same, report_leaves}
 use Rattle.safety_agreement.proofs.OwnedSteps.{number_below}

@@ -24,7 +24,7 @@ use Rattle.safety_frame.proofs.Parts.{IsByItems, adds}
 use Rattle.safety_frame.proofs.StableParts.{replica_known, client_known, consumer_known}
 use Rattle.safety_frame.proofs.Known.{agreed_is_longest}
 use Rattle.safety_frame.proofs.Inductions.{every_past}
-use Rattle.safety_agreement.specs.EveryRun.{OfEveryRun}
+use Rattle.safety_frame.specs.EveryRun.{OfEveryRun}
 use Rattle.safety_agreement.proofs.OtherKinds.{on_kind, told_stays}
 use Rattle.safety_agreement.proofs.Slots.{decided_there, knew, knows}
 use Rattle.safety_agreement.proofs.Reading.{one_is_chosen, each_known_is_chosen}

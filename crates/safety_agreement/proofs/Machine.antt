@@ -23,6 +23,19 @@ use Rattle.safety_agreement.proofs.Mirrors.{changed}
 abbrev pub vote_of : ℕ → ℕ → Entry → Vote Entry
 vote_of i b v = record { replica = i; ballot = b; value = v }
 
+-- the attempt with which a replica begins; it sends its value at once, or else it asks for promises
+abbrev pub fresh_attempt : ℕ → ℕ → Bool → ℕ → Entry → Attempt Entry
+fresh_attempt n i at_once b wish = record {
+  replica = i;
+  n = n;
+  ballot = b;
+  wish = wish;
+  promises = i ∷ [];
+  reported = None;
+  sending = if at_once then Some wish else None;
+  acceptances = if at_once then i ∷ [] else [];
+}
+
 -- a true message is sent as well
 pub say_sound : (n : ℕ) (state : SlotState Entry) → IsSound n state → (m : SlotMessage Entry) → IsTrueMessage n state.votes (bars_of state.acceptors) m
     → IsSound n (record state { sent = m ∷ state.sent })
@@ -89,21 +102,9 @@ module _ (n i : ℕ) (state : SlotState Entry) (within : i < n) (sound : IsSound
       (subst Answered free (IsSound-accept n i b v state within asked sound))
 
   -- it begins, and votes at once where the ballot is 0
-  abbrev pub fresh_attempt : Bool → ℕ → Entry → Attempt Entry
-  fresh_attempt at_once b wish = record {
-    replica = i;
-    n = n;
-    ballot = b;
-    wish = wish;
-    promises = i ∷ [];
-    reported = None;
-    sending = if at_once then Some wish else None;
-    acceptances = if at_once then i ∷ [] else [];
-  }
-
   abbrev pub after_begin : Bool → ℕ → Entry → SlotState Entry
   after_begin at_once b wish =
-      changed i (if at_once then with_vote b wish (state.acceptors i) else with_promise b (state.acceptors i)) (Some (fresh_attempt at_once b wish))
+      changed i (if at_once then with_vote b wish (state.acceptors i) else with_promise b (state.acceptors i)) (Some (fresh_attempt n i at_once b wish))
       (if at_once then vote_of i b wish ∷ state.votes else state.votes) ((if at_once then Accept b wish else Prepare b) ∷ state.sent) state
 
   pub begin_sound : (at_once : Bool) (b highest : ℕ) (wish : Entry) → (b == 0) ≡ at_once → b ≡ ballot_for i n highest (state.acceptors i)

@@ -5,7 +5,7 @@ use Rattle.runs.specs.Kinds.{sequencer_after}
 use Rattle.seq_node.proofs.Orderly.{standing}
 use Rattle.safety_frame.proofs.SoundStates.{states_are_sound}
 use Rattle.safety_frame.proofs.StableItems.{sequencer_is}
-use Rattle.safety_agreement.specs.EveryRun.{OfEveryRun}
+use Rattle.safety_frame.specs.EveryRun.{OfEveryRun}
 use Rattle.safety_agreement.specs.Attempts.{AttemptsAreOfTheNextSlot}
 
 pub attempts_are_of_the_next_slot : OfEveryRun AttemptsAreOfTheNextSlot

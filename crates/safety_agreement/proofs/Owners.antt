@@ -16,7 +16,7 @@ use Rattle.safety_frame.proofs.NodeKinds.{after, sequencers}
 use Rattle.safety_frame.proofs.Names.{states_named}
 use Rattle.safety_frame.proofs.Inductions.{OfStates, every_state}
 use Rattle.safety_frame.proofs.Senders.{SendsKeep, every_sent}
-use Rattle.safety_agreement.specs.EveryRun.{OfEveryRun}
+use Rattle.safety_frame.specs.EveryRun.{OfEveryRun}
 use Rattle.safety_agreement.specs.Owners.{GoesByOwner, BallotsHaveOwners}
 use Rattle.safety_agreement.proofs.Standing.{WasSent, was_sent}
 use Rattle.safety_agreement.proofs.OwnedSteps.{number_below, MayOwn, Owned, owned_sites, step_told}

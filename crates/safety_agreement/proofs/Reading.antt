@@ -1,5 +1,6 @@
 -- The clauses of one slot, read off the state of the machine that the slot is.
 use Rattle.std.proofs.Common.{◌≡◌, ◌∙◌, ℕ, suc, ◌<◌, ◌%◌, Contains, Option, Some, None, inl, inr, ◌⊎◌, refl, ap, subst, mod-lt, arith}
+use Rattle.std.specs.Prelude.{slice_get}
 use Rattle.std.proofs.lemmas.List.Elements.{All-weaker, All-contains, All-contains_itself}
 use Rattle.majority.specs.Ballots.{IsMajority}
 use Rattle.majority.specs.Acceptors.{AcceptorState}
@@ -12,14 +13,15 @@ use Rattle.msg_wire.specs.Valid.{IsValidConfig}
 use Rattle.net_model.specs.Pasts.{Past, sent}
 use Rattle.node_rules.proofs.Limits.{seqs_within}
 use Rattle.seq_node.specs.States.{SlotAttempt}
-use Rattle.runs.specs.Names.{Config, Entry, Message, What}
+use Rattle.runs.specs.Names.{NodeId, Config, Entry, Message, What}
 use Rattle.runs.specs.Names.whats
+use Rattle.runs.specs.Runs.{IsPastOf}
 use Rattle.runs.specs.Kinds.{sequencer_after}
+use Rattle.runs.specs.Known.{known_at}
 use Rattle.runs.specs.Chosen.{HasAccepted, IsChosen, OneIsChosen}
-use Rattle.safety_agreement.specs.EveryRun.{OfEveryRun}
+use Rattle.safety_frame.specs.EveryRun.{OfEveryRun}
 use Rattle.safety_agreement.specs.Votes.{bar_at, HasNotAccepted, OneVotePerBallot, OwnersVoted, AcceptedsAreVotes, Tells, PromisesTell, Supports, SafeAtBallot}
 use Rattle.safety_agreement.specs.Attempts.{AttemptsArePromised, AttemptsAreUnvoted, AttemptsAreVoted}
-use Rattle.safety_agreement.specs.Known.{EachKnownIsChosen}
 use Rattle.safety_agreement.proofs.Mirrors.{attempt_at, at_slot, IsSaid}
 use Rattle.safety_agreement.proofs.Machine.{stands_there}
 use Rattle.safety_agreement.proofs.Slots.{IsSlotOf}
@@ -182,7 +184,8 @@ one_is_chosen cfg past valid run slot v w p q =
     OneChosen cfg.seqs x.0.votes (bars_of x.0.acceptors) agreed.one_vote agreed.owners agreed.safe v w (chosen_by cfg past slot x.0 x.1 v p)
     (chosen_by cfg past slot x.0 x.1 w q)
 
-pub each_known_is_chosen : OfEveryRun EachKnownIsChosen
+pub each_known_is_chosen : (cfg : Config) (past : Past) → IsValidConfig cfg → IsPastOf cfg past → (node : NodeId) (slot : ℕ) (entry : Entry)
+    → slice_get (known_at cfg node past) slot ≡ Some entry → IsChosen cfg past slot entry
 each_known_is_chosen cfg past valid run node slot entry at =
     let x = slot_of cfg valid slot past run in
     chosen_is cfg past slot x.0 x.1 entry (x.1.known node entry at)

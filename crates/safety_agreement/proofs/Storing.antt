@@ -111,21 +111,12 @@ module _ (cfg : Config) (slot : ℕ) (me : NodeId) (within : number_of me < cfg.
   abbrev begun_attempt : Bool → ℕ → Entry → SlotAttempt
   begun_attempt at_once ballot value = record {
     slot = length s.base.known;
-    attempt = record {
-      replica = number_of s.base.me;
-      n = s.base.cfg.seqs;
-      ballot = ballot;
-      wish = value;
-      promises = number_of s.base.me ∷ [];
-      reported = None;
-      sending = if at_once then Some value else None;
-      acceptances = if at_once then number_of s.base.me ∷ [] else [];
-    };
+    attempt = fresh_attempt s.base.cfg.seqs (number_of s.base.me) at_once ballot value;
     wished = wished_value (agreed_by s.base) s.own;
   }
 
   abbrev machine_attempt : Bool → ℕ → Entry → Attempt Entry
-  machine_attempt at_once ballot value = fresh_attempt cfg.seqs i state within sound at_once ballot value
+  machine_attempt at_once ballot value = fresh_attempt cfg.seqs i at_once ballot value
 
   -- the ballot is that of the machine's start
   ballot_is : (ballot : ℕ) (value : Entry) → Begins s ballot value → length s.base.known ≡ slot

@@ -1,8 +1,6 @@
-pub mod EveryRun
 pub mod Acceptors
 pub mod Owners
 pub mod Votes
 pub mod Attempts
 pub mod Decideds
-pub mod Known
 pub mod Heard

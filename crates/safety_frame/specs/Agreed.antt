@@ -1,7 +1,6 @@
 -- The agreed list of a past, the longest that a sequencer knows; and what known entries agree on, in every run.
 use Rattle.std.specs.Prelude.{ℕ, ◌≤◌, nat_lt, if◌then◌else◌, List, [], ◌∷◌, ◌++◌, length}
 use Rattle.cut_core.specs.Consistency.{IsConsistent, IsContinuedBy}
-use Rattle.msg_wire.specs.Valid.{IsValidConfig}
 use Rattle.net_model.specs.Pasts.{Past}
 use Rattle.runs.specs.Names.{NodeId, Config, Entry}
 use Rattle.runs.specs.Names.nodes
@@ -9,6 +8,7 @@ use Rattle.runs.specs.Runs.{IsPastOf}
 use Rattle.runs.specs.Known.{known_at, agreed_after}
 use Rattle.runs.specs.Marks.{IsPrefix}
 use Rattle.runs.specs.Maps.{WasKnown, KnownMapsAgree}
+use Rattle.safety_frame.specs.EveryRun.{OfEveryRun}
 
 -- ---- the agreed list
 
@@ -49,4 +49,4 @@ abbrev pub AgreedListsAreLongest : Type 0
 AgreedListsAreLongest = (cfg : Config) (past : Past) → IsPastOf cfg past → AgreedIsLongest cfg past
 
 abbrev pub KnownFolds : Type 0
-KnownFolds = (cfg : Config) (past : Past) → IsValidConfig cfg → IsPastOf cfg past → KnownFoldsHold cfg past
+KnownFolds = OfEveryRun KnownFoldsHold

@@ -4,11 +4,10 @@ use Rattle.std.specs.Prelude.{◌≡◌, true, false, Contains}
 use Rattle.std.specs.List.{AllByRecursion}
 use Rattle.msg_wire.specs.Heeded.{goes_between, is_heeded}
 use Rattle.msg_wire.specs.Nodes.{is_node_of, same_node}
-use Rattle.msg_wire.specs.Valid.{IsValidConfig}
 use Rattle.net_model.specs.Pasts.{Past, Throughout, sent}
 use Rattle.runs.specs.Names.{NodeId, Config, Message, Event}
 use Rattle.runs.specs.Names.events
-use Rattle.runs.specs.Runs.{IsPastOf}
+use Rattle.safety_frame.specs.EveryRun.{OfEveryRun}
 
 pub record Goes (cfg : Config) (m : Message) : Type 0 where
   pub from_there : is_node_of cfg m.from ≡ true
@@ -25,4 +24,4 @@ pub record AllHeeded (cfg : Config) (past : Past) : Type 0 where
   pub entries : Throughout (λ past e. IsHeeded cfg e.node e.event) past
 
 abbrev pub MessagesAreHeeded : Type 0
-MessagesAreHeeded = (cfg : Config) (past : Past) → IsValidConfig cfg → IsPastOf cfg past → AllHeeded cfg past
+MessagesAreHeeded = OfEveryRun AllHeeded

@@ -1,3 +1,4 @@
+pub mod EveryRun
 pub mod Sound
 pub mod Gathered
 pub mod StableItems

@@ -1,6 +1,6 @@
 -- Every run has sound states: each node's state is one of its kind, within all limits, and what is sent and stored is valid.
 use Rattle.std.specs.Prelude.{ℕ, ◌<◌, length}
-use Rattle.msg_wire.specs.Valid.{IsValidConfig, AreValidItems}
+use Rattle.msg_wire.specs.Valid.{AreValidItems}
 use Rattle.msg_wire.specs.Steps.{AreValidMessages}
 use Rattle.net_model.specs.Pasts.{Past, sent}
 use Rattle.seq_node.specs.Sound.{IsSequencer}
@@ -8,8 +8,8 @@ use Rattle.shard_node.specs.Sound.{IsReplica}
 use Rattle.client_node.specs.Sound.{IsClient}
 use Rattle.consumer_node.specs.Sound.{IsConsumer}
 use Rattle.runs.specs.Names.{NodeId, Side, Config}
-use Rattle.runs.specs.Runs.{IsPastOf}
 use Rattle.runs.specs.Kinds.{sequencer_after, replica_after, client_after, consumer_after, items_at}
+use Rattle.safety_frame.specs.EveryRun.{OfEveryRun}
 
 -- of each node of the cluster
 pub record HasSoundStates (cfg : Config) (past : Past) : Type 0 where
@@ -21,4 +21,4 @@ pub record HasSoundStates (cfg : Config) (past : Past) : Type 0 where
   pub items : (node : NodeId) → AreValidItems (items_at cfg node past)
 
 abbrev pub StatesAreSound : Type 0
-StatesAreSound = (cfg : Config) (past : Past) → IsValidConfig cfg → IsPastOf cfg past → HasSoundStates cfg past
+StatesAreSound = OfEveryRun HasSoundStates

@@ -1,19 +1,18 @@
 -- In every run the stable part of a node's state is what its items give, none of them passed over.
 use Rattle.std.specs.Prelude.{◌≡◌, ℕ, ◌<◌, ◌==◌, if◌then◌else◌, List, [], ◌∷◌, ◌++◌, map, length, filter_map, fold, Option, Some, None}
 use Rattle.majority.specs.Acceptors.{AcceptorState, fresh_acceptor, with_promise, with_vote}
-use Rattle.msg_wire.specs.Valid.{IsValidConfig}
 use Rattle.net_model.specs.Pasts.{Past}
 use Rattle.seq_node.specs.States.{acceptor_at}
 use Rattle.client_node.specs.States.{ClientState}
 use Rattle.runs.specs.Names.{Side, Config, Entry, Item}
 use Rattle.runs.specs.Names.nodes
 use Rattle.runs.specs.Names.items
-use Rattle.runs.specs.Runs.{IsPastOf}
 use Rattle.runs.specs.Kinds.{items_at, sequencer_after, replica_after, client_after, consumer_after}
 use Rattle.runs.specs.Known.{known_at, log_at}
 use Rattle.runs.specs.Marks.{kept_confirmations}
 use Rattle.runs.specs.Homes.{Home, homes_at}
 use Rattle.runs.specs.Outputs.{app_after}
+use Rattle.safety_frame.specs.EveryRun.{OfEveryRun}
 
 -- ---- sequencers
 
@@ -79,4 +78,4 @@ pub record AreItems (cfg : Config) (past : Past) : Type 0 where
   pub consumers : (number : ℕ) → number < cfg.consumers → ConsumerIsItems cfg number past
 
 abbrev pub StableIsItems : Type 0
-StableIsItems = (cfg : Config) (past : Past) → IsValidConfig cfg → IsPastOf cfg past → AreItems cfg past
+StableIsItems = OfEveryRun AreItems

@@ -25,10 +25,10 @@ use Rattle.safety_frame.proofs.Lists.{begins_on}
 use Rattle.safety_frame.proofs.Names.{states_named}
 use Rattle.safety_frame.proofs.Going.{came}
 use Rattle.safety_frame.proofs.StableItems.{log_is}
-use Rattle.safety_logs.specs.Counting.{OfRuns}
-use Rattle.safety_logs.specs.LogClauses.{LogTells}
+use Rattle.safety_frame.specs.EveryRun.{OfEveryRun}
+use Rattle.safety_frame.specs.Replicates.{LogTells}
 use Rattle.safety_logs.proofs.Fronts.{begins_next}
-use Rattle.safety_logs.proofs.Said.{logs_tell}
+use Rattle.safety_frame.proofs.Replicates.{logs_tell}
 use Rattle.safety_logs.proofs.Coming.{was_sent}
 
 -- ---- a step of a backup, whose log begins a list in which all stands that it is told to copy
@@ -115,6 +115,6 @@ module _ (cfg : Config) (valid : IsValidConfig cfg) (shard : ℕ) (e : HistoryEn
       (λ other. subst (λ l. IsPrefix (log_by l) later) (sym (other_stored cfg backup e past other))
       (begins_on (log_at cfg shard sides.Backup past) whole later before longer))
 
-pub backup_is_a_prefix : OfRuns BackupIsAPrefix
+pub backup_is_a_prefix : OfEveryRun BackupIsAPrefix
 backup_is_a_prefix cfg past valid run =
     every_past cfg (BackupIsAPrefix cfg) (λ shard. ([], refl)) (λ e past run before shard. next cfg valid shard e past run (before shard)) past run

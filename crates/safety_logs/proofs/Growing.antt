@@ -8,7 +8,8 @@ use Rattle.runs.specs.Known.{log_at}
 use Rattle.runs.specs.Logs.{BackupIsAPrefix, BothReach}
 use Rattle.safety_frame.proofs.Pasts.{log_grows}
 use Rattle.safety_frame.proofs.Lists.{begins_itself, begins_on}
-use Rattle.safety_logs.specs.Counting.{OfRuns, AreCommon}
+use Rattle.safety_frame.specs.EveryRun.{OfEveryRun}
+use Rattle.safety_logs.specs.Counting.{AreCommon}
 use Rattle.safety_logs.specs.LogClauses.{HeldGrows, HeldIsCommon}
 use Rattle.safety_logs.proofs.Fronts.{front_of, no_longer}
 use Rattle.safety_logs.proofs.Backups.{backup_is_a_prefix}
@@ -51,7 +52,7 @@ common_of cfg past shard len prefix within =
       backup = front_of len log;
     }
 
-pub held_is_common : OfRuns HeldIsCommon
+pub held_is_common : OfEveryRun HeldIsCommon
 held_is_common cfg past valid run shard = record {
   common = record {
     front = log_at cfg shard sides.Backup past;

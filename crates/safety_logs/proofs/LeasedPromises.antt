@@ -16,7 +16,7 @@ use Rattle.safety_frame.proofs.Names.{states_named}
 use Rattle.safety_frame.proofs.SoundStates.{states_are}
 use Rattle.safety_frame.proofs.StableItems.{known_is}
 use Rattle.safety_frame.proofs.StableParts.{replica_known}
-use Rattle.safety_logs.specs.Counting.{OfRuns}
+use Rattle.safety_frame.specs.EveryRun.{OfEveryRun}
 use Rattle.safety_logs.specs.Held.{PromisedIsLeased}
 use Rattle.safety_logs.proofs.Leases.{leases, base_consistent}
 use Rattle.safety_logs.proofs.Leasing.{Leased, step_leased}
@@ -32,7 +32,7 @@ all_leased cfg valid =
       stays = λ e past node n run other is. is;
     })
 
-pub promised_is_leased : OfRuns PromisedIsLeased
+pub promised_is_leased : OfEveryRun PromisedIsLeased
 promised_is_leased cfg past valid run shard here =
     let node : NodeId = nodes.Shard shard sides.Primary in
     let n = after replicas cfg node past in

@@ -1,6 +1,5 @@
 pub mod Fronts
 pub mod Coming
-pub mod Said
 pub mod Backups
 pub mod Growing
 pub mod Told

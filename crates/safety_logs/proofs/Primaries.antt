@@ -17,7 +17,7 @@ use Rattle.safety_frame.proofs.Inductions.{OfStates, every_state}
 use Rattle.safety_frame.proofs.Names.{IsNamed, states_named}
 use Rattle.safety_frame.proofs.StableItems.{known_is}
 use Rattle.safety_frame.proofs.StableParts.{replica_known}
-use Rattle.safety_logs.specs.Counting.{OfRuns}
+use Rattle.safety_frame.specs.EveryRun.{OfEveryRun}
 use Rattle.safety_logs.specs.Held.{CoveredIsDurable, PromisedIsDurable}
 use Rattle.safety_logs.proofs.Promising.{Promises, step_promises}
 
@@ -57,12 +57,12 @@ module _ (cfg : Config) (valid : IsValidConfig cfg) (past : Past) (run : IsPastO
       (subst (λ (c : Config). covered_locals (agreed_after c n.base.known) shard ≤ n.own.durable) named.0
       (subst (λ (me : NodeId). covered_locals (agreed_after n.base.cfg n.base.known) (number_of me) ≤ n.own.durable) named.1 is.0))
 
-pub covered_is_durable : OfRuns CoveredIsDurable
+pub covered_is_durable : OfEveryRun CoveredIsDurable
 covered_is_durable cfg past valid run shard here =
     subst (λ (count : ℕ). covered_locals (agreed_at cfg (nodes.Shard shard sides.Primary) past) shard ≤ count) (durable cfg valid past run shard here)
     (covered cfg valid past run shard here)
 
-pub promised_is_durable : OfRuns PromisedIsDurable
+pub promised_is_durable : OfEveryRun PromisedIsDurable
 promised_is_durable cfg past valid run shard here =
     subst (λ (count : ℕ). (replica_after cfg shard sides.Primary past).own.promised ≤ count) (durable cfg valid past run shard here)
     (is cfg valid past run shard here).1

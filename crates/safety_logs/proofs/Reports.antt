@@ -19,10 +19,11 @@ use Rattle.runs.specs.Known.{log_at}
 use Rattle.safety_frame.proofs.NodeKinds.{after, sequencers}
 use Rattle.safety_frame.proofs.Inductions.{OfStates, every_state}
 use Rattle.safety_frame.proofs.Pasts.{log_grows}
-use Rattle.safety_logs.specs.Counting.{OfRuns}
-use Rattle.safety_logs.specs.LogClauses.{LogTells, AreUpTo, KeepsUpTo, KeepsWhatIsTrue, KeptReportsTell}
+use Rattle.safety_frame.specs.EveryRun.{OfEveryRun}
+use Rattle.safety_frame.specs.Replicates.{LogTells}
+use Rattle.safety_logs.specs.LogClauses.{AreUpTo, KeepsUpTo, KeepsWhatIsTrue, KeptReportsTell}
 use Rattle.safety_logs.proofs.Fronts.{no_longer}
-use Rattle.safety_logs.proofs.Said.{logs_tell}
+use Rattle.safety_frame.proofs.Replicates.{logs_tell}
 use Rattle.safety_logs.proofs.Coming.{was_sent}
 
 -- ---- lengths
@@ -152,5 +153,5 @@ module _ (cfg : Config) (valid : IsValidConfig cfg) where
         stays = λ e past node n run other keeps. grown e past n.own keeps;
       })
 
-pub kept_reports_tell : OfRuns KeptReportsTell
+pub kept_reports_tell : OfEveryRun KeptReportsTell
 kept_reports_tell cfg past valid run number here = kept_reports cfg valid past run (nodes.Seq number) refl here

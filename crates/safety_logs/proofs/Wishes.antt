@@ -26,7 +26,8 @@ use Rattle.runs.specs.Known.{agreed_after}
 use Rattle.safety_frame.proofs.NodeKinds.{after, sequencers}
 use Rattle.safety_frame.proofs.Inductions.{OfStates, every_state}
 use Rattle.safety_frame.proofs.Names.{states_named}
-use Rattle.safety_logs.specs.Counting.{OfRuns, counted, counted_by}
+use Rattle.safety_frame.specs.EveryRun.{OfEveryRun}
+use Rattle.safety_logs.specs.Counting.{counted, counted_by}
 use Rattle.safety_logs.specs.Cuts.{IsGoodWhere, IsGoodAttempt, WishesAreGood}
 use Rattle.safety_logs.proofs.GoodValues.{value_good}
 use Rattle.safety_logs.proofs.Growing.{held_grows}
@@ -166,7 +167,7 @@ module _ (cfg : Config) (valid : IsValidConfig cfg) where
         stays = λ e past node n run other good. later_good e past n good;
       })
 
-pub wishes_are_good : OfRuns WishesAreGood
+pub wishes_are_good : OfEveryRun WishesAreGood
 wishes_are_good cfg past valid run number here =
     let n = after sequencers cfg (nodes.Seq number) past in
     let named = states_named sequencers cfg valid past run (nodes.Seq number) refl here in

@@ -1,21 +1,15 @@
 -- The log of a shard that counts, and how far its replicas have it: what is said of logs above is said through these.
 use Rattle.std.specs.Prelude.{◌≡◌, ℕ, ◌≤◌, min, List, length, slice_index}
 use Rattle.cut_core.specs.Agreements.{Agreement}
-use Rattle.msg_wire.specs.Valid.{IsValidConfig}
 use Rattle.net_model.specs.Pasts.{Past}
 use Rattle.seq_node.specs.States.{SequencerState}
 use Rattle.shard_node.specs.States.{durable_locals}
 use Rattle.runs.specs.Names.{NodeId, Side, Config, Record}
 use Rattle.runs.specs.Names.nodes
 use Rattle.runs.specs.Names.sides
-use Rattle.runs.specs.Runs.{IsPastOf}
 use Rattle.runs.specs.Kinds.{replica_after}
 use Rattle.runs.specs.Known.{log_at}
 use Rattle.runs.specs.Marks.{IsPrefix}
-
--- it holds of every past of every valid cluster
-abbrev pub OfRuns : (Config → Past → Type 0) → Type 0
-OfRuns P = (cfg : Config) (past : Past) → IsValidConfig cfg → IsPastOf cfg past → P cfg past
 
 -- the log of a shard that counts
 abbrev pub held_log : Config → ℕ → Past → List Record

@@ -1,15 +1,15 @@
 -- What is told and kept of logs stands in them, and the log that counts only grows.
-use Rattle.std.specs.Prelude.{ℕ, ◌<◌, ◌≤◌, List, ◌∷◌, length, slice_index, Contains}
-use Rattle.net_model.specs.Pasts.{Past, sent}
+use Rattle.std.specs.Prelude.{ℕ, ◌<◌, ◌≤◌, List, ◌∷◌, length, slice_index}
+use Rattle.net_model.specs.Pasts.{Past}
 use Rattle.seq_node.specs.States.{SequencerState}
-use Rattle.shard_node.specs.Messages.{IsTrueOf}
-use Rattle.runs.specs.Names.{NodeId, Config, Message, What, HistoryEntry}
+use Rattle.runs.specs.Names.{NodeId, Config, What, HistoryEntry}
 use Rattle.runs.specs.Names.nodes
 use Rattle.runs.specs.Names.sides
 use Rattle.runs.specs.Names.whats
 use Rattle.runs.specs.Kinds.{sequencer_after}
 use Rattle.runs.specs.Known.{log_at}
 use Rattle.runs.specs.Marks.{IsPrefix}
+use Rattle.safety_frame.specs.Replicates.{OfSaid}
 use Rattle.safety_logs.specs.Counting.{held_log, AreCommon, IsCommon, counted}
 
 -- ---- logs
@@ -27,18 +27,6 @@ abbrev pub HeldIsCommon : Config → Past → Type 0
 HeldIsCommon cfg past = (shard : ℕ) → IsCommon cfg past shard (length (held_log cfg shard past))
 
 -- ---- what was sent
-
--- of each message so far, by who sent it
-abbrev pub OfSaid : (NodeId → What → Type 0) → Past → Type 0
-OfSaid T past = (m : Message) → Contains (sent past) m → T m.from m.what
-
--- what a replica told of its log is true of it
-abbrev pub LogTells : Config → Past → NodeId → What → Type 0
-LogTells cfg past (nodes.Shard shard side) what = IsTrueOf (log_at cfg shard side past) what
-LogTells cfg past _ what = Unit {0}
-
-abbrev pub LogsTell : Config → Past → Type 0
-LogsTell cfg past = OfSaid (LogTells cfg past) past
 
 -- what a backup told to have copied is common
 abbrev pub ReplicatedIsCommon : Config → Past → NodeId → What → Type 0

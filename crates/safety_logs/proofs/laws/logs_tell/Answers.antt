@@ -1,4 +1,4 @@
-use Rattle.safety_logs.proofs.Said as lemma
+use Rattle.safety_frame.proofs.Replicates as lemma
 use Rattle.safety_logs.proofs.laws.logs_tell.Goals as goal
 
 pub returns : goal.returns
