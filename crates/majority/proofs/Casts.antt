@@ -1,14 +1,14 @@
 -- The two changes that matter: a replica promises a ballot, and a replica votes. Each goes with one message.
-use Rattle.std.proofs.Common.{◌≡◌, ◌≢◌, ℕ, suc, ◌%◌, ◌<◌, ◌≤◌, List, [], ◌∷◌, Option, Some, None, Contains, ◌⊎◌, inl, inr, refl, sym, subst, ◌∙◌, arith}
+use Rattle.std.proofs.Common.{◌≡◌, ℕ, suc, ◌%◌, ◌<◌, ◌≤◌, List, ◌∷◌, Option, Some, None, ◌⊎◌, inl, inr, refl, sym, subst, arith}
 use Rattle.std.proofs.lemmas.Bool.{cases_lt}
 use Rattle.majority.specs.Acceptors.{AcceptorState, with_promise, with_vote}
 use Rattle.majority.specs.Votes.{Vote, HasVote}
 use Rattle.majority.specs.Slot.{Message, with_entry}
 use Rattle.majority.proofs.Lists.{Contains-here, Contains-later}
 use Rattle.majority.proofs.Entries.{with_entry-cases, Contains-elim, HasVote-elim}
-use Rattle.majority.proofs.Agreement.{Reaches, bars_of, HasNoVote, OneVotePerBallot, OwnersVoted, VotesHaveOwners, IsLastVote, AcceptorIsItems, IsTrueMessage, IsSafeAt, SafeAtBallot, IsAgreed}
+use Rattle.majority.specs.Agreement.{Reaches, bars_of, HasNoVote, OneVotePerBallot, OwnersVoted, IsLastVote, AcceptorIsItems, IsTrueMessage, IsSafeAt, IsAgreed}
 use Rattle.majority.proofs.Chosen.{OneValuePerBallot}
-use Rattle.majority.proofs.Growth.{Reaches-lower, Grows, IsSafeAt-kept, IsTrueMessage-kept}
+use Rattle.majority.proofs.Growth.{Grows, IsSafeAt-kept, IsTrueMessage-kept}
 
 -- what a promise that does not pass a ballot reaches is no greater
 pub Reaches-bound : (promise : Option ℕ) (ballot other : ℕ) → (Reaches promise (suc ballot) → ⊥) → Reaches promise other → other ≤ ballot

@@ -1,13 +1,10 @@
 -- What follows from votes of which each is safe: two chosen values are equal, and journals of a majority tell the chosen one.
-use Rattle.std.proofs.Common.{◌≡◌, ℕ, suc, ◌%◌, ◌*◌, ◌<◌, ◌≤◌, List, [], ◌∷◌, length, map, nat_eq, nat_lt, true, false, slice_get, Option, Some, None, All, Contains, ◌⊎◌, inl, inr, refl, sym, ap, ◌∙◌, subst, arith}
-use Rattle.std.specs.List.{IsDistinct}
-use Rattle.std.proofs.lemmas.Bool.{cases_lt, cases_eq}
+use Rattle.std.proofs.Common.{◌≡◌, ℕ, ◌%◌, ◌≤◌, List, Option, inl, inr, sym, subst, arith}
+use Rattle.std.proofs.lemmas.Bool.{cases_lt}
 use Rattle.std.proofs.lemmas.List.Elements.{All-contains}
-use Rattle.majority.specs.Ballots.{IsMajority}
 use Rattle.majority.specs.Votes.{Vote, HasVote, IsChosenAt, IsChosenByVotes}
-use Rattle.majority.proofs.Lists.{Contains-here}
 use Rattle.majority.proofs.Majorities.{MajoritiesMeet}
-use Rattle.majority.proofs.Agreement.{Reaches, HasNoVote, OneVotePerBallot, VotesHaveOwners, SafeAtBallot}
+use Rattle.majority.specs.Agreement.{OneVotePerBallot, VotesHaveOwners, SafeAtBallot}
 
 module _ {V : Type 0} where
   -- all votes at one ballot are of one value

@@ -1,25 +1,22 @@
 -- What is chosen stays chosen, and an attempt that counts a majority of acceptances has had its value chosen.
-use Rattle.std.proofs.Common.{◌≡◌, ℕ, zero, suc, ◌+◌, ◌*◌, ◌%◌, ◌^◌, ◌<◌, ◌≤◌, ◌==◌, Bool, true, false, List, [], ◌∷◌, ◌++◌, length, map, nat_lt, nat_eq, Option, Some, None, slice_get, is_some, All, Contains, ◌⊎◌, inl, inr, refl, sym, ap, ◌∙◌, subst, arith, if◌then◌else◌}
-use Rattle.std.specs.List.{IsDistinct}
-use Rattle.std.proofs.lemmas.List.Elements.{All-weaker, All-head, All-tail, All-contains, All-contains_itself, All-map}
-use Rattle.std.proofs.lemmas.List.{length-map}
-use Rattle.std.proofs.lemmas.Bool.{cases_lt}
-use Rattle.majority.specs.Ballots.{IsMajority, is_majority, with_replica}
-use Rattle.majority.specs.Acceptors.{AcceptorState, accept_answer}
+use Rattle.std.proofs.Common.{◌≡◌, ℕ, ◌*◌, ◌^◌, ◌<◌, ◌==◌, Bool, true, false, List, [], ◌∷◌, ◌++◌, length, nat_lt, Option, Some, None, slice_get, is_some, Contains, ◌⊎◌, inl, inr, refl, sym, ◌∙◌, subst, if◌then◌else◌}
+use Rattle.std.proofs.lemmas.List.Elements.{All-weaker, All-contains_itself}
+use Rattle.majority.specs.Ballots.{is_majority, with_replica}
+use Rattle.majority.specs.Acceptors.{accept_answer}
 use Rattle.majority.specs.Proposers.{Attempt, promise_answer, ballot_for, accepted_answer, accepted_answer_heard}
-use Rattle.majority.specs.Votes.{Vote, HasVote, IsChosenAt, IsChosenByVotes}
+use Rattle.majority.specs.Votes.{Vote, HasVote, IsChosenAt}
 use Rattle.majority.specs.declared.answers.AcceptedAnswer.{AcceptedAnswer}
 use Rattle.majority.specs.declared.answers.AcceptedAnswer.TheVariants as accepting
 use Rattle.majority.specs.declared.answers.AcceptAnswer.{AcceptAnswer}
 use Rattle.majority.specs.declared.answers.AcceptAnswer.TheVariants as accept
 use Rattle.majority.specs.declared.answers.PromiseAnswer.{PromiseAnswer}
 use Rattle.majority.specs.declared.answers.PromiseAnswer.TheVariants as promise
-use Rattle.majority.specs.Slot.{Message, Prepare, Promise, Accept, Accepted, SlotEvent, Start, Comes, Restart, SlotState, fresh_slot, slot_started, start_happens, message_comes, promise_answered, promise_comes, accepted_comes, votes_for_accept, votes_for_promise, slot_after, slot_run}
-use Rattle.majority.proofs.Lists.{Contains-here, Contains-later, Contains-cases, Contains-none}
-use Rattle.majority.proofs.Agreement.{IsLastVote, AttemptStands, AttemptsAreVoted, IsAttemptIfAny, IsAttempt, IsAgreed, IsSound, bars_of, Covers}
+use Rattle.majority.specs.Slot.{Message, Prepare, Promise, Accept, Accepted, SlotEvent, Start, Comes, Restart, SlotState, slot_started, start_happens, message_comes, promise_answered, promise_comes, accepted_comes, votes_for_accept, votes_for_promise, slot_after, slot_run}
+use Rattle.majority.proofs.Lists.{Contains-later}
+use Rattle.majority.specs.Agreement.{AttemptStands, AttemptsAreVoted, IsAttemptIfAny, IsAttempt, IsSound, bars_of}
 use Rattle.majority.proofs.Chosen.{OneValuePerBallot}
 use Rattle.majority.proofs.Members.{IsDistinct-with_replica, All-with_replica}
-use Rattle.majority.proofs.Promises.{most_from_test}
+use Rattle.majority.proofs.Majorities.{most_from_test}
 
 -- the answer that a value is chosen comes where the test holds
 chosen_test : (test : Bool) (have : ℕ) → (let answer : AcceptedAnswer = if test then accepting.Chosen else accepting.Waiting have in answer) ≡ accepting.Chosen

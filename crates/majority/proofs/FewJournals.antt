@@ -1,5 +1,5 @@
 -- Few journals, of replicas that differ.
-use Rattle.std.proofs.Common.{◌≡◌, ℕ, ◌<◌, false, List, [], ◌∷◌, nat_eq, All}
+use Rattle.std.proofs.Common.{◌≡◌, ℕ, ◌<◌, false, [], ◌∷◌, nat_eq}
 use Rattle.std.proofs.lemmas.List.Elements.{All-nil, All-cons}
 use Rattle.majority.specs.Journals.{AreOfReplicas}
 use Rattle.majority.specs.declared.journal.VoteJournal.{VoteJournal}

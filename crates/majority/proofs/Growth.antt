@@ -1,9 +1,9 @@
 -- What stays true of a slot as votes, promises and messages are added.
-use Rattle.std.proofs.Common.{◌≡◌, ℕ, suc, ◌%◌, ◌<◌, ◌≤◌, List, Option, Some, None, All, Contains, ◌⊎◌, inl, inr, arith}
+use Rattle.std.proofs.Common.{◌≡◌, ℕ, suc, ◌%◌, ◌<◌, ◌≤◌, List, Option, Some, None, Contains, ◌⊎◌, inl, inr, arith}
 use Rattle.majority.specs.Votes.{Vote, HasVote}
 use Rattle.majority.specs.Proposers.{Attempt}
 use Rattle.majority.specs.Slot.{Message, Prepare, Promise, Accept, Accepted}
-use Rattle.majority.proofs.Agreement.{Reaches, HasNoVote, IsSafeAt, Tells, PromisesTell, IsTrueMessage, Covers, WasReported, AttemptsAreUnvoted, AttemptsHavePromises, AttemptsAreVoted, AttemptStands, IsAttempt, IsAttemptIfAny}
+use Rattle.majority.specs.Agreement.{Reaches, HasNoVote, IsSafeAt, Tells, PromisesTell, IsTrueMessage, HasPromises, ReportedBy, AttemptsHavePromises, AttemptsAreVoted, AttemptStands, IsAttemptIfAny}
 
 pub Reaches-lower : (promise : Option ℕ) (ballot lower : ℕ) → Reaches promise ballot → lower ≤ ballot → Reaches promise lower
 Reaches-lower None ballot lower h below = h
@@ -17,6 +17,23 @@ module _ {V : Type 0} where
         → HasVote votes replica ballot value ⊎ (Reaches (bars replica) (suc ballot) → ⊥)
     pub bars_grow : (replica ballot : ℕ) → Reaches (bars replica) ballot → Reaches (bars' replica) ballot
     pub sent_kept : (message : Message V) → Contains sent message → Contains sent' message
+
+  -- promises that stand on
+  module _ (P Q : ℕ → Option (ℕ × V) → Type 0) (on : (from : ℕ) (report : Option (ℕ × V)) → P from report → Q from report) where
+    ReportedBy-kept : (promises : List ℕ) (report : Option (ℕ × V)) → ReportedBy P promises report → ReportedBy Q promises report
+    ReportedBy-kept promises None was = tt
+    ReportedBy-kept promises (Some report) was = (was.0, was.1, on was.0 (Some report) was.2)
+
+  pub HasPromises-kept : (own : ℕ) (P Q : ℕ → Option (ℕ × V) → Type 0) → ((from : ℕ) (report : Option (ℕ × V)) → P from report → Q from report)
+      → (a : Attempt V) → HasPromises own P a → HasPromises own Q a
+  HasPromises-kept own P Q on a have =
+      record {
+        heard = λ replica member. elim (have.heard replica member) [
+          | inl alone ↦ inl alone
+          | inr other ↦ inr (other.0, on replica other.0 other.1, other.2)
+        ];
+        reported = ReportedBy-kept P Q on a.promises a.reported have.reported;
+      }
 
   module _ (votes votes' : List (Vote V)) (bars bars' : ℕ → Option ℕ) (sent sent' : List (Message V)) (grows : Grows votes votes' bars bars' sent sent') where
     pub HasNoVote-kept : (replica ballot : ℕ) → Reaches (bars replica) (suc ballot) → HasNoVote votes replica ballot → HasNoVote votes' replica ballot
@@ -58,19 +75,10 @@ module _ {V : Type 0} where
     IsTrueMessage-kept n (Accept ballot value) holds = grows.votes_kept (ballot % n) ballot value holds
     IsTrueMessage-kept n (Accepted from ballot) holds = (holds.0, grows.votes_kept from ballot holds.0 holds.1)
 
-    WasReported-kept : (ballot : ℕ) (report : Option (ℕ × V)) → WasReported sent ballot report → WasReported sent' ballot report
-    WasReported-kept ballot None was = tt
-    WasReported-kept ballot (Some report) was = (was.0, grows.sent_kept (Promise was.0 ballot (Some report)) was.1)
-
     pub AttemptsHavePromises-kept : (a : Attempt V) → AttemptsHavePromises sent a → AttemptsHavePromises sent' a
     AttemptsHavePromises-kept a have =
-        record {
-          heard = λ replica member. elim (have.heard replica member) [
-            | inl own ↦ inl own
-            | inr other ↦ inr (other.0, grows.sent_kept (Promise replica a.ballot other.0) other.1, other.2)
-          ];
-          reported = WasReported-kept a.ballot a.reported have.reported;
-        }
+        HasPromises-kept a.replica (λ from report. Contains sent (Promise from a.ballot report)) (λ from report. Contains sent' (Promise from a.ballot report))
+        (λ from report there. grows.sent_kept (Promise from a.ballot report) there) a have
 
     pub AttemptsAreVoted-kept : (n : ℕ) (a : Attempt V) (value : V) → AttemptsAreVoted votes n a value → AttemptsAreVoted votes' n a value
     AttemptsAreVoted-kept n a value voted =

@@ -1,15 +1,14 @@
 -- What an attempt has heard, after one more promise.
-use Rattle.std.proofs.Common.{◌≡◌, ℕ, suc, ◌%◌, ◌<◌, ◌≤◌, Bool, true, false, List, [], ◌∷◌, ◌++◌, nat_lt, nat_eq, Option, Some, None, All, Contains, ◌⊎◌, inl, inr, refl, sym, subst, arith}
-use Rattle.std.specs.Bool.{⊤}
+use Rattle.std.proofs.Common.{◌≡◌, ℕ, suc, ◌<◌, ◌≤◌, List, Option, Some, None, Contains, ◌⊎◌, inl, inr, sym, ◌∙◌, subst, arith}
 use Rattle.std.proofs.lemmas.Bool.Decides.{leb_tells}
+use Rattle.majority.specs.Ballots.{with_replica}
 use Rattle.majority.specs.Proposers.{Attempt, greater_report, with_heard}
 use Rattle.majority.specs.Votes.{Vote, HasVote}
 use Rattle.majority.specs.Slot.{Message, Promise}
-use Rattle.majority.proofs.Members.{Contains-with_replica}
-use Rattle.majority.proofs.Agreement.{Reaches, HasNoVote, AcceptorIsItems, IsLastVote, Tells, PromisesTell, Covers, WasReported, AttemptsHavePromises}
+use Rattle.majority.proofs.Members.{Contains-with_replica, with_replica-has, with_replica-keeps}
+use Rattle.majority.specs.Agreement.{Reaches, AcceptorIsItems, IsLastVote, Tells, PromisesTell, IsOfVote, Covers, ReportedBy, HasPromises}
 use Rattle.majority.specs.Acceptors.{AcceptorState}
 use Rattle.majority.proofs.Casts.{Reaches-bound}
-use Rattle.majority.proofs.Safety.{IsOfVote}
 
 module _ {V : Type 0} where
   -- the greater of two reports is the second where its ballot is greater, else the first
@@ -48,23 +47,13 @@ module _ {V : Type 0} where
   IsOfVote-greater votes (Some p) None h k = h
   IsOfVote-greater votes (Some p) (Some q) h k = greater_report-cases (IsOfVote votes) p q (λ _. k) (λ _. h)
 
-  WasReported-greater : (sent : List (Message V)) (ballot : ℕ) (p q : Option (ℕ × V)) → WasReported sent ballot p → WasReported sent ballot q
-      → WasReported sent ballot (greater_report p q)
-  WasReported-greater sent ballot None q h k = k
-  WasReported-greater sent ballot (Some p) None h k = h
-  WasReported-greater sent ballot (Some p) (Some q) h k = greater_report-cases (WasReported sent ballot) p q (λ _. k) (λ _. h)
-
-  WasReported-sent : (sent : List (Message V)) (from ballot : ℕ) (report : Option (ℕ × V)) → Contains sent (Promise from ballot report)
-      → WasReported sent ballot report
-  WasReported-sent sent from ballot None member = tt
-  WasReported-sent sent from ballot (Some report) member = (from, member)
-
   -- what was reported at the ballot is of a vote
-  pub IsOfVote-reported : (n : ℕ) (votes : List (Vote V)) (bars : ℕ → Option ℕ) (sent : List (Message V)) (ballot : ℕ) (report : Option (ℕ × V)) →
+  pub IsOfVote-reported : (n : ℕ) (votes : List (Vote V)) (bars : ℕ → Option ℕ) (sent : List (Message V)) (ballot : ℕ) (promises : List ℕ)
+      (report : Option (ℕ × V)) →
       ((from : ℕ) (told : Option (ℕ × V)) → Contains sent (Promise from ballot told) → PromisesTell n votes bars from ballot told)
-      → WasReported sent ballot report → IsOfVote votes report
-  IsOfVote-reported n votes bars sent ballot None tell was = tt
-  IsOfVote-reported n votes bars sent ballot (Some report) tell was = (was.0, (tell was.0 (Some report) was.1).tells.1)
+      → ReportedBy (λ from told. Contains sent (Promise from ballot told)) promises report → IsOfVote votes report
+  IsOfVote-reported n votes bars sent ballot promises None tell was = tt
+  IsOfVote-reported n votes bars sent ballot promises (Some report) tell was = (was.0, (tell was.0 (Some report) was.2).tells.1)
 
   IsOfVote-last : (votes : List (Vote V)) (i : ℕ) (last : Option (ℕ × V)) → IsLastVote votes i last → IsOfVote votes last
   IsOfVote-last votes i None h = tt
@@ -85,18 +74,46 @@ module _ {V : Type 0} where
   Tells-own n votes i b own holds free =
       Tells-last votes i b own.accepted (λ c w vote. Reaches-bound own.promised b c free (holds.barred c w vote)) holds.last
 
-  -- one more promise is heard
-  pub AttemptsHavePromises-heard : (sent : List (Message V)) (from : ℕ) (report : Option (ℕ × V)) (a : Attempt V)
-      → Contains sent (Promise from a.ballot report) →
-      AttemptsHavePromises sent a → AttemptsHavePromises sent (with_heard from report a)
-  AttemptsHavePromises-heard sent from report a member have =
-      record {
-        heard = λ j among. elim (Contains-with_replica from j a.promises among) [
-          | inl old ↦ elim (have.heard j old) [
-            | inl own ↦ inl own
-            | inr other ↦ inr (other.0, other.1, Covers-first a.reported report other.0 other.2)
-          ]
-          | inr new ↦ inr (report, subst (λ k. Contains sent (Promise k a.ballot report)) new member, Covers-second a.reported report report (Covers_refl report))
-        ];
-        reported = WasReported-greater sent a.ballot a.reported report have.reported (WasReported-sent sent from a.ballot report member);
-      }
+  -- ---- one more promise is heard
+
+  module _ (own : ℕ) (Promised : ℕ → Option (ℕ × V) → Type 0) where
+    ReportedBy-greater : (promises : List ℕ) (p q : Option (ℕ × V)) → ReportedBy Promised promises p → ReportedBy Promised promises q
+        → ReportedBy Promised promises (greater_report p q)
+    ReportedBy-greater promises None q h k = k
+    ReportedBy-greater promises (Some p) None h k = h
+    ReportedBy-greater promises (Some p) (Some q) h k = greater_report-cases (ReportedBy Promised promises) p q (λ _. k) (λ _. h)
+
+    ReportedBy-more : (from : ℕ) (promises : List ℕ) (report : Option (ℕ × V)) → ReportedBy Promised promises report
+        → ReportedBy Promised (with_replica from promises) report
+    ReportedBy-more from promises None was = tt
+    ReportedBy-more from promises (Some report) was = (was.0, with_replica-keeps from was.0 promises was.1, was.2)
+
+    -- another's promise, or the own one, which reports nothing
+    abbrev pub IsPromise : ℕ → Option (ℕ × V) → Type 0
+    IsPromise from report = Promised from report ⊎ ((from ≡ own) × (report ≡ None))
+
+    ReportedBy-heard : (from : ℕ) (promises : List ℕ) (report : Option (ℕ × V)) → IsPromise from report
+        → ReportedBy Promised (with_replica from promises) report
+    ReportedBy-heard from promises None is = tt
+    ReportedBy-heard from promises (Some report) is = elim is [
+      | inl came ↦ (from, with_replica-has from promises, came)
+      | inr alone ↦ absurd (let none = alone.1 in cc)
+    ]
+
+    pub HasPromises-heard : (from : ℕ) (report : Option (ℕ × V)) (a : Attempt V) → IsPromise from report → HasPromises own Promised a
+        → HasPromises own Promised (with_heard from report a)
+    HasPromises-heard from report a is have =
+        record {
+          heard = λ j among. elim (Contains-with_replica from j a.promises among) [
+            | inl old ↦ elim (have.heard j old) [
+              | inl alone ↦ inl alone
+              | inr other ↦ inr (other.0, other.1, Covers-first a.reported report other.0 other.2)
+            ]
+            | inr new ↦ elim is [
+              | inl came ↦ inr (report, subst (λ k. Promised k report) new came, Covers-second a.reported report report (Covers_refl report))
+              | inr alone ↦ inl (sym new ∙ alone.0)
+            ]
+          ];
+          reported = ReportedBy-greater (with_replica from a.promises) a.reported report (ReportedBy-more from a.promises a.reported have.reported)
+              (ReportedBy-heard from a.promises report is);
+        }

@@ -3,7 +3,6 @@ pub mod Numbers
 pub mod Majorities
 pub mod Members
 pub mod Reports
-pub mod Agreement
 pub mod Chosen
 pub mod Growth
 pub mod Safety

@@ -1,7 +1,8 @@
--- Two majorities have a common member.
-use Rattle.std.proofs.Common.{ℕ, ◌<◌, List, ◌++◌, Contains, inl, inr, arith, length-append}
+-- Two majorities have a common member; and what passes the test is one.
+use Rattle.std.proofs.Common.{◌≡◌, ℕ, suc, ◌*◌, ◌<◌, true, length, List, ◌++◌, Contains, inl, inr, arith, length-append}
 use Rattle.std.proofs.lemmas.List.Elements.{All-append}
-use Rattle.majority.specs.Ballots.{IsMajority}
+use Rattle.std.proofs.lemmas.Bool.Decides.{leb_tells}
+use Rattle.majority.specs.Ballots.{IsMajority, is_majority}
 use Rattle.majority.proofs.Lists.{common_or_apart, IsDistinct-append, length-IsDistinct}
 
 pub MajoritiesMeet : (n : ℕ) (xs ys : List ℕ) → IsMajority n xs → IsMajority n ys → (x : ℕ) × Contains xs x × Contains ys x
@@ -11,4 +12,12 @@ MajoritiesMeet n xs ys p q =
       | inr apart ↦
           let few = length-IsDistinct n (xs ++ ys) (All-append (λ x. x < n) xs ys p.within q.within) (IsDistinct-append xs ys p.distinct q.distinct apart) in
           absurd (omega (arith, p.most, q.most, length-append xs ys))
+    ]
+
+-- a list that passes the test for a majority of n
+pub most_from_test : (n count : ℕ) (replicas : List ℕ) → count ≡ n → is_majority count replicas ≡ true → n < 2 * length replicas
+most_from_test n count replicas same test =
+    elim (leb_tells (suc count) (2 * length replicas)) [
+      | inl more ↦ omega (arith, more.1)
+      | inr less ↦ let fails = less.0 in absurd (cc)
     ]

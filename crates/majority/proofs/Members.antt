@@ -1,10 +1,10 @@
 -- A list of distinct replicas with one more among them.
-use Rattle.std.proofs.Common.{◌≡◌, ℕ, ◌<◌, Bool, true, false, List, [], ◌∷◌, ◌++◌, length, nat_eq, refl, All, Contains, inl, ◌⊎◌, arith, length-append}
+use Rattle.std.proofs.Common.{◌≡◌, ℕ, ◌<◌, Bool, true, false, List, [], ◌∷◌, ◌++◌, length, nat_eq, refl, All, Contains, inl, ◌⊎◌, inr, arith, length-append}
 use Rattle.std.specs.List.{IsDistinct, list_any}
 use Rattle.std.proofs.lemmas.Bool.Decides.{nat_tests}
-use Rattle.std.proofs.lemmas.List.Elements.{All-push, Contains-push_cases}
+use Rattle.std.proofs.lemmas.List.Elements.{All-push, Contains-push_cases, Contains-append_left, Contains-append_right}
 use Rattle.majority.specs.Ballots.{with_replica}
-use Rattle.majority.proofs.Lists.{Apart, AreApart, Apart-from_test, IsDistinct-append, IsDistinct-cons, IsDistinct-nil, length-IsDistinct}
+use Rattle.majority.proofs.Lists.{Apart, AreApart, Apart-from_test, Contains-here, Contains-or_apart, IsDistinct-append, IsDistinct-cons, IsDistinct-nil, length-IsDistinct}
 
 AreApart-one : (x : ℕ) (ys : List ℕ) → Apart x ys → AreApart ys (x ∷ [])
 AreApart-one x [] a = tt
@@ -37,6 +37,24 @@ All-with_replica P x xs a p = by_test (list_any (nat_eq x) xs) refl
     by_test : (b : Bool) → list_any (nat_eq x) xs ≡ b → All P (with_replica x xs)
     by_test true e = rw e a
     by_test false e = rw e (All-push P xs x a p)
+
+Apart-test : (x : ℕ) (ys : List ℕ) → Apart x ys → list_any (nat_eq x) ys ≡ false
+Apart-test x [] a = refl
+Apart-test x (y ∷ ys) a = rw (a.0, Apart-test x ys a.1) refl
+
+pub with_replica-has : (x : ℕ) (xs : List ℕ) → Contains (with_replica x xs) x
+with_replica-has x xs = by_test (list_any (nat_eq x) xs) refl
+  where
+    by_test : (b : Bool) → list_any (nat_eq x) xs ≡ b → Contains (with_replica x xs) x
+    by_test true e = rw e (elim (Contains-or_apart x xs) [ inl found ↦ found | inr apart ↦ absurd (let none = Apart-test x xs apart in cc) ])
+    by_test false e = rw e (Contains-append_right xs (x ∷ []) x (Contains-here x []))
+
+pub with_replica-keeps : (x y : ℕ) (xs : List ℕ) → Contains xs y → Contains (with_replica x xs) y
+with_replica-keeps x y xs c = by_test (list_any (nat_eq x) xs) refl
+  where
+    by_test : (b : Bool) → list_any (nat_eq x) xs ≡ b → Contains (with_replica x xs) y
+    by_test true e = rw e c
+    by_test false e = rw e (Contains-append_left xs (x ∷ []) y c)
 
 pub Contains-with_replica : (x y : ℕ) (xs : List ℕ) → Contains (with_replica x xs) y → Contains xs y ⊎ (x ≡ y)
 Contains-with_replica x y xs = by_test (list_any (nat_eq x) xs) refl

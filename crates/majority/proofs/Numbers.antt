@@ -1,5 +1,5 @@
 -- The next ballot of a replica is the least one above the floor that it owns.
-use Rattle.std.proofs.Common.{◌≡◌, ℕ, suc, ◌+◌, ◌*◌, ◌/◌, ◌%◌, ◌<◌, ◌≤◌, nat_lt, ◌==◌, if◌then◌else◌, true, false, inl, inr, refl, sym, ap, ◌∙◌, mul-le-mul_right, add-mul, one-mul, div-add-mod', mod-lt, arith}
+use Rattle.std.proofs.Common.{◌≡◌, ℕ, suc, ◌+◌, ◌*◌, ◌/◌, ◌%◌, ◌<◌, ◌≤◌, ◌==◌, true, false, inl, inr, sym, ap, ◌∙◌, mul-le-mul_right, add-mul, one-mul, div-add-mod', mod-lt, arith}
 use Rattle.std.proofs.lemmas.Bool.Decides.{leb_tells, eqb_tells}
 use Rattle.std.proofs.lemmas.Bool.{cases_lt}
 use Rattle.std.proofs.Math.Nat.{add-mod_right}

@@ -1,32 +1,24 @@
 -- A promise or an acceptance that comes to an attempt keeps the invariant of one slot.
-use Rattle.std.proofs.Common.{◌≡◌, ℕ, zero, suc, ◌+◌, ◌*◌, ◌%◌, ◌<◌, ◌≤◌, ◌==◌, Bool, true, false, List, [], ◌∷◌, length, nat_lt, nat_eq, Option, Some, None, is_some, All, Contains, ◌⊎◌, inl, inr, refl, sym, ap, ◌∙◌, subst, arith, if◌then◌else◌}
+use Rattle.std.proofs.Common.{◌≡◌, ℕ, suc, ◌<◌, Bool, true, false, List, [], ◌∷◌, nat_eq, Option, Some, None, is_some, All, Contains, inl, inr, refl, sym, ◌∙◌, subst, arith, if◌then◌else◌}
 use Rattle.std.specs.List.{IsDistinct}
-use Rattle.std.proofs.lemmas.Bool.Decides.{leb_tells, eqb_tells, nat_tests}
-use Rattle.majority.specs.Ballots.{greater_promise, with_replica, is_majority, IsMajority}
+use Rattle.std.proofs.lemmas.Bool.Decides.{eqb_tells}
+use Rattle.majority.specs.Ballots.{greater_promise, with_replica, is_majority}
 use Rattle.majority.specs.Acceptors.{AcceptorState, with_vote}
-use Rattle.majority.specs.Proposers.{Attempt, greater_report, value_of_report, value_to_send, with_heard, with_sending, with_acceptance, promise_answer, promise_answer_unless, promise_answer_heard, attempt_after_accepted}
+use Rattle.majority.specs.Proposers.{Attempt, value_to_send, with_heard, with_acceptance, promise_answer, promise_answer_unless, promise_answer_heard}
 use Rattle.majority.specs.Votes.{Vote, HasVote}
-use Rattle.majority.specs.Slot.{Message, Prepare, Promise, Accept, Accepted, SlotState, with_entry, promise_answered, promise_comes, accepted_comes}
+use Rattle.majority.specs.Slot.{Message, Promise, Accept, Accepted, SlotState, with_entry, promise_answered, promise_comes, accepted_comes}
 use Rattle.majority.specs.declared.answers.PromiseAnswer.{PromiseAnswer}
 use Rattle.majority.specs.declared.answers.PromiseAnswer.TheVariants as promise
 use Rattle.majority.proofs.Lists.{Contains-here, IsDistinct-nil, IsDistinct-cons}
 use Rattle.majority.proofs.Members.{IsDistinct-with_replica, All-with_replica, Contains-with_replica}
 use Rattle.majority.proofs.Entries.{with_entry-cases}
-use Rattle.majority.proofs.Agreement.{Reaches, bars_of, HasNoVote, OwnersVoted, PromisesTell, AttemptStands, AttemptsAreUnvoted, AttemptsHavePromises, AttemptsAreVoted, IsAttempt, IsAttemptIfAny, IsAgreed, IsSound, IsSafeAt}
+use Rattle.majority.specs.Agreement.{Reaches, bars_of, PromisesTell, AttemptStands, AttemptsAreUnvoted, AttemptsHavePromises, AttemptsAreVoted, IsAttempt, IsAttemptIfAny, IsSound, IsSafeAt}
 use Rattle.majority.proofs.Chosen.{OneValuePerBallot}
-use Rattle.majority.proofs.Safety.{HasTold, IsSafeAt-from_reports}
+use Rattle.majority.proofs.Safety.{sent_is_safe}
 use Rattle.majority.proofs.Casts.{IsAgreed-vote}
-use Rattle.majority.proofs.Heard.{Covers-first, Covers-second, Covers_refl, IsOfVote-greater, IsOfVote-reported, IsOfVote-own, Tells-own, AttemptsHavePromises-heard}
+use Rattle.majority.proofs.Heard.{HasPromises-heard}
 use Rattle.majority.proofs.Steps.{not_passed, with_entry-kept, Reaches-here, IsSound-same}
 use Rattle.majority.proofs.Starts.{IsSound-attempt, others_kept, All-alone, Contains-alone}
-
--- a list that passes the test for a majority of n
-pub most_from_test : (n count : ℕ) (replicas : List ℕ) → count ≡ n → is_majority count replicas ≡ true → n < 2 * length replicas
-most_from_test n count replicas same test =
-    elim (leb_tells (suc count) (2 * length replicas)) [
-      | inl more ↦ omega (arith, more.1)
-      | inr less ↦ let fails = less.0 in absurd (cc)
-    ]
 
 module _ {V : Type 0} where
   -- What an answer says of the attempt that gave it.
@@ -54,8 +46,10 @@ module _ {V : Type 0} where
     -- while nothing is being sent, the attempt stands with the promise heard
     stands : a.sending ≡ None → AttemptsAreUnvoted slot.votes a.ballot × AttemptsHavePromises slot.sent (with_heard from report a)
     stands e =
-        let before : AttemptsAreUnvoted slot.votes a.ballot × AttemptsHavePromises slot.sent a = subst (λ s. AttemptStands slot.votes slot.sent n a s) e attempt.stands in
-        (before.0, AttemptsHavePromises-heard slot.sent from report a member before.1)
+        let before : AttemptsAreUnvoted slot.votes a.ballot × AttemptsHavePromises slot.sent a = subst (λ s. AttemptStands slot.votes slot.sent n a s) e attempt.stands in (
+          before.0,
+          HasPromises-heard a.replica (λ k told. Contains slot.sent (Promise k a.ballot told)) from report a (inl member) before.1,
+        )
 
     promises_within : All (λ k. k < n) (with_replica from a.promises)
     promises_within = All-with_replica (λ k. k < n) from a.promises attempt.within told.within
@@ -74,40 +68,6 @@ module _ {V : Type 0} where
           distinct = promises_distinct;
           stands = subst (λ s. AttemptStands slot.votes slot.sent n (with_heard from report a) s) (sym e) (stands e);
         }
-
-    -- who counts as having promised has told a report that the greatest one covers
-    has_told : a.sending ≡ None → (Reaches (bars_of slot.acceptors i) (suc a.ballot) → ⊥) → (j : ℕ) → Contains (with_replica from a.promises) j →
-        HasTold slot.votes (bars_of slot.acceptors) a.ballot (greater_report (slot.acceptors i).accepted (greater_report a.reported report)) j
-    has_told e below j among =
-        elim ((stands e).1.heard j among) [
-          | inl own ↦ subst (λ k. HasTold slot.votes (bars_of slot.acceptors) a.ballot (greater_report (slot.acceptors i).accepted (greater_report a.reported report)) k) (sym (own ∙ attempt.here)) (record {
-            report = (slot.acceptors i).accepted;
-            tells = Tells-own n slot.votes i a.ballot (slot.acceptors i) (sound.agreed.acceptors i) below;
-            barred = attempt.barred;
-            covered = Covers-first (slot.acceptors i).accepted (greater_report a.reported report) (slot.acceptors i).accepted (Covers_refl (slot.acceptors i).accepted);
-          })
-          | inr other ↦
-              let tale : PromisesTell n slot.votes (bars_of slot.acceptors) j a.ballot other.0 = sound.agreed.messages (Promise j a.ballot other.0) other.1 in
-              record {
-                report = other.0;
-                tells = tale.tells;
-                barred = tale.barred;
-                covered = Covers-second (slot.acceptors i).accepted (greater_report a.reported report) other.0 other.2;
-              }
-        ]
-
-    -- the value to send is safe
-    safe : a.sending ≡ None → (Reaches (bars_of slot.acceptors i) (suc a.ballot) → ⊥) → is_majority a.n (with_replica from a.promises) ≡ true →
-        IsSafeAt n slot.votes (bars_of slot.acceptors) a.ballot (value_to_send (slot.acceptors i) (with_heard from report a))
-    safe e below majority =
-        let most = most_from_test n a.n (with_replica from a.promises) attempt.count majority in
-        IsSafeAt-from_reports n slot.votes (bars_of slot.acceptors) sound.agreed.one_vote sound.agreed.owners sound.agreed.safe a.ballot (with_replica from a.promises)
-        (greater_report (slot.acceptors i).accepted (greater_report a.reported report)) a.wish
-        (record { within = promises_within; distinct = promises_distinct; most = most })
-        (IsOfVote-greater slot.votes (slot.acceptors i).accepted (greater_report a.reported report)
-        (IsOfVote-own n slot.votes i (slot.acceptors i) (sound.agreed.acceptors i))
-        (IsOfVote-reported n slot.votes (bars_of slot.acceptors) slot.sent a.ballot (greater_report a.reported report) (λ k t sent. sound.agreed.messages (Promise k a.ballot t) sent) (stands e).1.reported))
-        (has_told e below)
 
     -- the attempt sends a value that is safe at its ballot
     IsSound-send : (value : V) → a.sending ≡ None → (Reaches (bars_of slot.acceptors i) (suc a.ballot) → ⊥)
@@ -155,7 +115,7 @@ module _ {V : Type 0} where
         let open_to = free (greater_promise (slot.acceptors i).promised a.ballot) (slot.acceptors i) (with_heard from report a) value quiet.1 in
         let majority = enough (is_majority a.n (with_replica from a.promises)) (value_to_send (slot.acceptors i) (with_heard from report a)) value _ open_to.1 in
         let below = not_passed (slot.acceptors i).promised a.ballot open_to.0 in
-        IsSound-send value quiet.0 below (subst (IsSafeAt n slot.votes (bars_of slot.acceptors) a.ballot) majority.1 (safe quiet.0 below majority.0))
+        IsSound-send value quiet.0 below (subst (IsSafeAt n slot.votes (bars_of slot.acceptors) a.ballot) majority.1 (sent_is_safe n i slot sound (with_heard from report a) (IsAttempt-heard quiet.0) (stands quiet.0).1 below majority.0))
 
   pub IsSound-promise : (n i from ballot : ℕ) (report : Option (ℕ × V)) (slot : SlotState V) → i < n → Contains slot.sent (Promise from ballot report)
       → IsSound n slot →

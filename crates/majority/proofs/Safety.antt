@@ -1,20 +1,19 @@
--- The value that a majority's reports tell is safe at their ballot.
-use Rattle.std.proofs.Common.{◌≡◌, ℕ, suc, ◌%◌, ◌<◌, ◌≤◌, List, Option, Some, None, All, Contains, ◌⊎◌, inl, inr, sym, subst, arith}
-use Rattle.std.specs.Bool.{⊤}
+-- Why a value that is sent is safe: no other is chosen below its ballot, nor can be. Each of a majority has promised the ballot, and told its last vote
+-- below it; the value is that of the greatest of these votes, or where there is none the wish. Below that vote's ballot the vote's own majority
+-- supports it; from there on nobody of the promised majority voted for anything else, nor will, below the ballot.
+use Rattle.std.proofs.Common.{◌≡◌, ℕ, suc, ◌<◌, ◌≤◌, List, Option, Some, None, Contains, ◌⊎◌, inl, inr, sym, subst, ◌∙◌, true, arith}
 use Rattle.std.proofs.lemmas.Bool.{cases_lt, cases_eq}
-use Rattle.majority.specs.Ballots.{IsMajority}
-use Rattle.majority.specs.Proposers.{value_of_report}
+use Rattle.majority.specs.Ballots.{IsMajority, is_majority}
+use Rattle.majority.specs.Proposers.{Attempt, greater_report, value_of_report, value_to_send}
+use Rattle.majority.specs.Slot.{Promise, SlotState}
 use Rattle.majority.specs.Votes.{Vote, HasVote}
-use Rattle.majority.proofs.Agreement.{Reaches, HasNoVote, OneVotePerBallot, VotesHaveOwners, SafeAtBallot, IsSafeAt, Tells, Covers}
+use Rattle.majority.specs.Agreement.{Reaches, HasNoVote, OneVotePerBallot, VotesHaveOwners, SafeAtBallot, IsSafeAt, Tells, PromisesTell, IsOfVote, Covers, AttemptsHavePromises, IsAttempt, IsSound, bars_of}
 use Rattle.majority.proofs.Chosen.{OneValuePerBallot}
 use Rattle.majority.proofs.Growth.{Reaches-lower}
+use Rattle.majority.proofs.Heard.{Covers-first, Covers-second, Covers_refl, IsOfVote-greater, IsOfVote-own, IsOfVote-reported, Tells-own}
+use Rattle.majority.proofs.Majorities.{most_from_test}
 
 module _ {V : Type 0} where
-  -- the report is of a vote
-  abbrev pub IsOfVote : List (Vote V) → Option (ℕ × V) → Type 0
-  IsOfVote votes None = ⊤
-  IsOfVote votes (Some report) = (replica : ℕ) × HasVote votes replica report.0 report.1
-
   -- the replica has promised the ballot, and told a report of no greater ballot than the greatest
   pub record HasTold (votes : List (Vote V)) (bars : ℕ → Option ℕ) (ballot : ℕ) (greatest : Option (ℕ × V)) (replica : ℕ) : Type 0 where
     pub report : Option (ℕ × V)
@@ -73,3 +72,45 @@ module _ {V : Type 0} where
                 ],
           )
         ]
+
+  -- ---- an attempt that has heard a majority
+
+  module _ (n i : ℕ) (slot : SlotState V) (sound : IsSound n slot) (a : Attempt V) (attempt : IsAttempt n slot.votes (bars_of slot.acceptors i) slot.sent i a)
+      (have : AttemptsHavePromises slot.sent a) (unpassed : Reaches (bars_of slot.acceptors i) (suc a.ballot) → ⊥) where
+    -- the greatest report, the own acceptor's included
+    abbrev greatest : Option (ℕ × V)
+    greatest = greater_report (slot.acceptors i).accepted a.reported
+
+    -- the replica itself tells by its acceptor, which has promised no greater ballot; another told by its Promise
+    has_told : (j : ℕ) → Contains a.promises j → HasTold slot.votes (bars_of slot.acceptors) a.ballot greatest j
+    has_told j among =
+        elim (have.heard j among) [
+          | inl own ↦ subst (λ k. HasTold slot.votes (bars_of slot.acceptors) a.ballot greatest k) (sym (own ∙ attempt.here)) (record {
+            report = (slot.acceptors i).accepted;
+            tells = Tells-own n slot.votes i a.ballot (slot.acceptors i) (sound.agreed.acceptors i) unpassed;
+            barred = attempt.barred;
+            covered = Covers-first (slot.acceptors i).accepted a.reported (slot.acceptors i).accepted (Covers_refl (slot.acceptors i).accepted);
+          })
+          | inr other ↦
+              let tale : PromisesTell n slot.votes (bars_of slot.acceptors) j a.ballot other.0 = sound.agreed.messages (Promise j a.ballot other.0) other.1 in
+              record {
+                report = other.0;
+                tells = tale.tells;
+                barred = tale.barred;
+                covered = Covers-second (slot.acceptors i).accepted a.reported other.0 other.2;
+              }
+        ]
+
+    -- the greatest report is a vote that was cast
+    is_of_vote : IsOfVote slot.votes greatest
+    is_of_vote =
+        IsOfVote-greater slot.votes (slot.acceptors i).accepted a.reported (IsOfVote-own n slot.votes i (slot.acceptors i) (sound.agreed.acceptors i))
+        (IsOfVote-reported n slot.votes (bars_of slot.acceptors) slot.sent a.ballot a.promises a.reported
+        (λ k told there. sound.agreed.messages (Promise k a.ballot told) there) have.reported)
+
+    -- so the value to send is safe
+    pub sent_is_safe : is_majority a.n a.promises ≡ true → IsSafeAt n slot.votes (bars_of slot.acceptors) a.ballot (value_to_send (slot.acceptors i) a)
+    sent_is_safe majority =
+        let most = most_from_test n a.n a.promises attempt.count majority in
+        IsSafeAt-from_reports n slot.votes (bars_of slot.acceptors) sound.agreed.one_vote sound.agreed.owners sound.agreed.safe a.ballot a.promises greatest
+        a.wish (record { within = attempt.within; distinct = attempt.distinct; most = most }) is_of_vote has_told

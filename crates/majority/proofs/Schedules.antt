@@ -1,15 +1,13 @@
 -- Every schedule of one slot keeps the invariant, and what follows from it.
-use Rattle.std.proofs.Common.{◌≡◌, ℕ, zero, suc, ◌+◌, ◌*◌, ◌%◌, ◌^◌, ◌<◌, ◌≤◌, ◌==◌, Bool, true, false, List, [], ◌∷◌, ◌++◌, length, nat_lt, nat_eq, Option, Some, None, slice_get, All, Contains, ◌⊎◌, inl, inr, refl, sym, ap, ◌∙◌, subst, arith, if◌then◌else◌}
+use Rattle.std.proofs.Common.{◌≡◌, ℕ, zero, suc, ◌^◌, ◌<◌, Bool, true, false, List, [], ◌∷◌, nat_lt, Option, Some, None, slice_get, Contains, inl, inr, refl, sym, subst, if◌then◌else◌}
 use Rattle.std.proofs.lemmas.Bool.Decides.{leb_tells}
-use Rattle.majority.specs.Proposers.{Attempt, ballot_for}
-use Rattle.majority.specs.Votes.{Vote, HasVote, IsChosenAt, IsChosenByVotes}
-use Rattle.majority.specs.Slot.{Message, Prepare, Promise, Accept, Accepted, SlotEvent, Start, Comes, Restart, SlotState, fresh_slot, with_entry, slot_started, start_happens, message_comes, slot_after, slot_run}
+use Rattle.majority.specs.Proposers.{ballot_for}
+use Rattle.majority.specs.Slot.{Message, Prepare, Promise, Accept, Accepted, SlotEvent, Start, Comes, Restart, SlotState, fresh_slot, slot_started, start_happens, message_comes, slot_after, slot_run}
 use Rattle.majority.proofs.Lists.{Contains-here, Contains-later, Contains-none}
-use Rattle.majority.proofs.Agreement.{IsSound, IsAgreed}
+use Rattle.majority.specs.Agreement.{IsSound}
 use Rattle.majority.proofs.Steps.{IsSound-prepare, IsSound-accept}
 use Rattle.majority.proofs.Starts.{IsSound-start, IsSound-restart}
 use Rattle.majority.proofs.Promises.{IsSound-promise, IsSound-accepted}
-use Rattle.majority.proofs.Chosen.{OneChosen, ChosenIsCarried}
 
 -- what a place of a list has is among its members
 pub Contains-slice_get : {X : Type 0} (xs : List X) (k : ℕ) (x : X) → slice_get xs k ≡ Some x → Contains xs x

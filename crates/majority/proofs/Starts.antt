@@ -1,19 +1,17 @@
 -- A start keeps the invariant of one slot, and so does the loss of an attempt.
-use Rattle.std.proofs.Common.{◌≡◌, ℕ, zero, suc, ◌%◌, ◌<◌, ◌≤◌, ◌==◌, ◌&&◌, Bool, true, false, List, [], ◌∷◌, nat_lt, nat_eq, Option, Some, None, is_some, is_none, unwrap_or, max, All, Contains, ◌⊎◌, inl, inr, refl, sym, ap, ◌∙◌, subst, arith, mod-eq_of_lt, if◌then◌else◌}
-use Rattle.std.specs.Bool.{⊤}
-use Rattle.std.proofs.lemmas.Bool.Decides.{leb_tells, eqb_tells, nat_tests}
+use Rattle.std.proofs.Common.{◌≡◌, ℕ, suc, ◌%◌, ◌<◌, ◌==◌, Bool, true, false, List, [], ◌∷◌, Option, Some, None, is_none, unwrap_or, max, All, Contains, inl, inr, refl, sym, ap, ◌∙◌, subst, arith, mod-eq_of_lt, if◌then◌else◌}
 use Rattle.std.proofs.lemmas.List.Elements.{All-nil, All-cons}
-use Rattle.majority.specs.Acceptors.{AcceptorState, with_promise, with_vote}
-use Rattle.majority.specs.Proposers.{Attempt, takes_zero, ballot_for, attempt_started, own_started}
-use Rattle.majority.specs.Ballots.{next_ballot, IsNextBallot}
+use Rattle.majority.specs.Acceptors.{with_promise, with_vote}
+use Rattle.majority.specs.Proposers.{Attempt, takes_zero, ballot_for}
+use Rattle.majority.specs.Ballots.{next_ballot}
 use Rattle.majority.proofs.Numbers.{IsNextBallot-next, positive_test, zero_from_test}
 use Rattle.majority.specs.Votes.{Vote, HasVote}
-use Rattle.majority.specs.Slot.{Message, Prepare, Promise, Accept, Accepted, SlotState, with_entry, slot_started}
-use Rattle.majority.proofs.Lists.{Contains-here, Contains-later, Contains-cases, Contains-none, IsDistinct-nil, IsDistinct-cons}
-use Rattle.majority.proofs.Entries.{with_entry-cases, HasVote-elim}
-use Rattle.majority.proofs.Agreement.{Reaches, bars_of, HasNoVote, OwnersVoted, IsLastVote, AcceptorIsItems, IsAttempt, IsAttemptIfAny, AttemptsAreUnvoted, AttemptsHavePromises, AttemptsAreVoted, IsAgreed, IsSound}
-use Rattle.majority.proofs.Growth.{Grows, IsAttemptIfAny-kept, Reaches-lower}
-use Rattle.majority.proofs.Casts.{Grows-promise, IsAgreed-promise, Grows-vote, IsAgreed-vote, MayVote}
+use Rattle.majority.specs.Slot.{Message, Prepare, Accept, SlotState, with_entry, slot_started}
+use Rattle.majority.proofs.Lists.{Contains-here, Contains-cases, Contains-none, IsDistinct-nil, IsDistinct-cons}
+use Rattle.majority.proofs.Entries.{with_entry-cases}
+use Rattle.majority.specs.Agreement.{Reaches, bars_of, HasNoVote, IsLastVote, IsAttemptIfAny, IsSound}
+use Rattle.majority.proofs.Growth.{IsAttemptIfAny-kept, Reaches-lower}
+use Rattle.majority.proofs.Casts.{Grows-promise, IsAgreed-promise, Grows-vote, IsAgreed-vote}
 use Rattle.majority.proofs.Steps.{Reaches-here, HasNoVote-other}
 
 -- this replica alone

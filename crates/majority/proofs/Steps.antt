@@ -1,17 +1,17 @@
 -- Each step of the machine of one slot keeps its invariant. The steps name the message that comes, and not its place.
-use Rattle.std.proofs.Common.{◌≡◌, ℕ, suc, ◌%◌, ◌<◌, ◌≤◌, ◌==◌, Bool, true, false, List, [], ◌∷◌, nat_lt, nat_eq, Option, Some, None, is_some, All, Contains, ◌⊎◌, inl, inr, refl, sym, ap, ◌∙◌, subst, arith, if◌then◌else◌}
+use Rattle.std.proofs.Common.{◌≡◌, ℕ, suc, ◌%◌, ◌<◌, List, ◌∷◌, Option, Some, None, Contains, inl, inr, refl, sym, subst, arith}
 use mathlib.Core.Path.{fun_ext}
-use Rattle.std.proofs.lemmas.Bool.Decides.{leb_tells, eqb_tells, nat_tests}
+use Rattle.std.proofs.lemmas.Bool.Decides.{leb_tells, eqb_tells}
 use Rattle.majority.specs.Ballots.{greater_promise}
 use Rattle.majority.specs.Acceptors.{AcceptorState, with_promise, with_vote, prepare_answer_unless, after_prepare_answer, accept_answer_unless, after_accept_answer}
 use Rattle.majority.specs.Proposers.{Attempt}
 use Rattle.majority.specs.Votes.{Vote, HasVote}
-use Rattle.majority.specs.Slot.{Message, Prepare, Promise, Accept, Accepted, SlotState, with_entry, prepare_comes, accept_comes, sent_for_prepare, sent_for_accept, votes_for_accept}
-use Rattle.majority.proofs.Lists.{Contains-here, Contains-later}
+use Rattle.majority.specs.Slot.{Message, Promise, Accept, Accepted, SlotState, with_entry, prepare_comes, accept_comes, sent_for_prepare, sent_for_accept, votes_for_accept}
+use Rattle.majority.proofs.Lists.{Contains-here}
 use Rattle.majority.proofs.Entries.{with_entry-cases, HasVote-elim}
-use Rattle.majority.proofs.Agreement.{Reaches, bars_of, HasNoVote, OwnersVoted, IsAttemptIfAny, IsAgreed, IsSound}
-use Rattle.majority.proofs.Growth.{Grows, IsAttemptIfAny-kept}
-use Rattle.majority.proofs.Casts.{Grows-promise, IsAgreed-promise, Grows-vote, IsAgreed-vote, MayVote}
+use Rattle.majority.specs.Agreement.{Reaches, bars_of, HasNoVote, OwnersVoted, IsSound}
+use Rattle.majority.proofs.Growth.{IsAttemptIfAny-kept}
+use Rattle.majority.proofs.Casts.{Grows-promise, IsAgreed-promise, Grows-vote, IsAgreed-vote}
 use Rattle.majority.proofs.Heard.{Tells-own}
 
 -- a promise that is not above the ballot does not pass it

@@ -1,5 +1,5 @@
 -- Journals of a majority tell the chosen value, and so does what is recovered from them.
-use Rattle.std.proofs.Common.{◌≡◌, ℕ, ◌*◌, ◌<◌, ◌≤◌, List, [], ◌∷◌, length, map, Option, Some, None, slice_get, option_map, All, Contains, inl, inr, refl, sym, ap, ◌∙◌, subst, arith}
+use Rattle.std.proofs.Common.{◌≡◌, ℕ, ◌*◌, ◌<◌, ◌≤◌, List, [], ◌∷◌, length, map, Option, Some, None, slice_get, option_map, Contains, inl, inr, refl, sym, ap, ◌∙◌, subst, arith}
 use Rattle.std.proofs.lemmas.List.Elements.{All-head, All-tail, All-contains, All-map}
 use Rattle.std.proofs.lemmas.List.{length-map}
 use Rattle.std.proofs.lemmas.Bool.{cases_lt}
@@ -12,10 +12,9 @@ use Rattle.majority.specs.declared.journal.VoteJournal.{VoteJournal}
 use Rattle.majority.specs.Slot.{Message}
 use Rattle.majority.proofs.Lists.{Contains-here, Contains-later, Contains-cases, Contains-none}
 use Rattle.majority.proofs.Majorities.{MajoritiesMeet}
-use Rattle.majority.proofs.Agreement.{IsLastVote, IsAgreed, Covers, bars_of}
+use Rattle.majority.specs.Agreement.{IsLastVote, IsOfVote, IsAgreed, Covers, bars_of}
 use Rattle.majority.proofs.Chosen.{ChosenIsCarried}
 use Rattle.majority.proofs.Heard.{Covers-first, Covers-second, Covers_refl, IsOfVote-greater, IsOfVote-own}
-use Rattle.majority.proofs.Safety.{IsOfVote}
 
 -- a member of what a function made of a list is made of a member
 Contains-map : {X Y : Type 0} (f : X → Y) (xs : List X) (y : Y) → Contains (map f xs) y → (x : X) × Contains xs x × (f x ≡ y)

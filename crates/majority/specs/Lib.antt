@@ -4,3 +4,4 @@ pub mod Proposers
 pub mod Votes
 pub mod Journals
 pub mod Slot
+pub mod Agreement

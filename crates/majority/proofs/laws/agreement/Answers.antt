@@ -1,7 +1,6 @@
-use Rattle.std.proofs.Common.{◌≡◌, ℕ, ◌++◌, ◌≤◌, List, Contains}
-use Rattle.majority.specs.Votes.{Vote, HasVote, IsChosenByVotes, IsChosenAt}
-use Rattle.majority.specs.Slot.{SlotEvent, fresh_slot, slot_run}
-use Rattle.majority.proofs.Agreement.{bars_of, IsSound}
+use Rattle.std.proofs.Common.{◌++◌}
+use Rattle.majority.specs.Slot.{fresh_slot, slot_run}
+use Rattle.majority.specs.Agreement.{bars_of}
 use Rattle.majority.proofs.Chosen.{OneChosen, ChosenIsCarried}
 use Rattle.majority.proofs.Schedules.{IsSound-fresh, IsSound-run}
 use Rattle.majority.proofs.Decided.{KeepsVotes-run, IsChosenAt-kept}

@@ -1,4 +1,4 @@
-use Rattle.std.proofs.Common.{ℕ, option_map, ap}
+use Rattle.std.proofs.Common.{option_map, ap}
 use Rattle.majority.specs.Slot.{fresh_slot, slot_run}
 use Rattle.majority.proofs.Schedules.{IsSound-fresh, IsSound-run}
 use Rattle.majority.proofs.Telling.{greatest_at-chosen, slice_get-recovered}

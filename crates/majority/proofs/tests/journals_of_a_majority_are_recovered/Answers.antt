@@ -1,4 +1,4 @@
-use Rattle.std.proofs.Common.{◌≡◌, ℕ, refl, arith}
+use Rattle.std.proofs.Common.{◌≡◌, refl, arith}
 use Rattle.majority.proofs.FewJournals.{two_replicas}
 use Rattle.majority.proofs.tests.journals_of_a_majority_are_recovered.Goals as goal
 
