@@ -5,5 +5,6 @@ pub mod Insides
 pub mod Nodes
 pub mod Turns
 pub mod Rules
+pub mod Acting
 pub mod Lives
 pub mod Examples

@@ -5,9 +5,8 @@ ghost use Rattle.node_rules.specs.Turns.{turn_of};
 ghost use Rattle.node_rules.specs.Rules.{heed};
 
 use crate::learning::Learns;
-use crate::node::Node;
+use crate::node::{Done, Node};
 use msg_wire::{Message, Step};
-use quota_table::OutOfMemory;
 
 /// What a kind of node does at a message that it heeds.
 pub trait Hears: Learns {
@@ -21,7 +20,7 @@ pub trait Hears: Learns {
     ghost is_under_way: { Turn Self → Type 0 };
 
     /// A message that is heeded.
-    fn hear(node: &mut Node<Self>, message: &Message, out: &mut Step) -> Result<(), OutOfMemory>
+    fn hear(node: &mut Node<Self>, message: &Message, out: &mut Step) -> Done
         requires under_way { is_under_way (turn_of node.old out.old) }
         requires valid { IsValidMessage message.now }
         requires heeded { IsTrue (is_heeded node.old.base.cfg node.old.base.me message.now) }
@@ -30,7 +29,7 @@ pub trait Hears: Learns {
 
 impl<K: Hears> Node<K> {
     /// A message that comes. One that is not heeded does nothing by itself.
-    pub fn heed(&mut self, message: &Message, out: &mut Step) -> Result<(), OutOfMemory>
+    pub fn heed(&mut self, message: &Message, out: &mut Step) -> Done
         requires under_way { K.is_under_way (turn_of self.old out.old) }
         requires valid { IsValidMessage message.now }
         ensures { OnOk result (turn_of self.new out.new ≡ heed K.hear message.now (turn_of self.old out.old)) }

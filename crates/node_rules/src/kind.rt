@@ -6,7 +6,7 @@ ghost use Rattle.node_rules.specs.Names.events;
 ghost use Rattle.node_rules.specs.Turns.{turn_of};
 
 use crate::hearing::Hears;
-use crate::node::Node;
+use crate::node::{Done, Node};
 use msg_wire::{Config, Event, Item, Message, Step};
 use quota_table::OutOfMemory;
 use spec_base::NodeId;
@@ -53,7 +53,7 @@ pub trait Kind: Hears {
         ensures fitting { IfOk result is_fitting };
 
     /// Takes one more item of a vault. One that does not fit is passed over.
-    fn fit(node: &mut Node<Self>, item: &Item) -> Result<(), OutOfMemory>
+    fn fit(node: &mut Node<Self>, item: &Item) -> Done
         requires valid { IsValidItem item.now }
         requires fitting { is_fitting node.old }
         ensures node { OnOk result (node.new ≡ fit node.old item.now) }
@@ -66,12 +66,7 @@ pub trait Kind: Hears {
         ensures sound { is_sound node.new };
 
     /// The step of a message that comes, written into a step that gives nothing yet.
-    fn deliver(
-        node: &mut Node<Self>,
-        alloc: Global,
-        message: &Message,
-        out: &mut Step,
-    ) -> Result<(), OutOfMemory>
+    fn deliver(node: &mut Node<Self>, alloc: Global, message: &Message, out: &mut Step) -> Done
         requires sound { is_sound node.old }
         requires valid { IsValidMessage message.now }
         requires empty { out.old ≡ empty_step }
@@ -80,12 +75,7 @@ pub trait Kind: Hears {
         ensures valid { OnOk result (IsValidStep out.new) };
 
     /// The step of an event, written into a step that gives nothing yet.
-    fn react(
-        node: &mut Node<Self>,
-        alloc: Global,
-        event: &Event,
-        out: &mut Step,
-    ) -> Result<(), OutOfMemory>
+    fn react(node: &mut Node<Self>, alloc: Global, event: &Event, out: &mut Step) -> Done
         requires sound { is_sound node.old }
         requires valid { IsValidEvent event.now }
         requires empty { out.old ≡ empty_step }

@@ -4,9 +4,9 @@ ghost use Rattle.node_rules.specs.Bases.{has_slot};
 ghost use Rattle.node_rules.specs.Turns.{turn_of};
 ghost use Rattle.node_rules.specs.Rules.{learn, learn_next, decided};
 
-use crate::node::Node;
+use crate::node::{Done, Node};
 use msg_wire::Step;
-use quota_table::{Entry, OutOfMemory};
+use quota_table::Entry;
 use spec_base::NodeId;
 
 /// What a kind of node does at a learned entry.
@@ -19,7 +19,7 @@ pub trait Learns: Drop {
     ghost on_learned: { Agreement → Entry → Turn Self → Turn Self };
 
     /// Learns the entry of the next slot, and does what follows.
-    fn learn(node: &mut Node<Self>, entry: &Entry, out: &mut Step) -> Result<(), OutOfMemory>
+    fn learn(node: &mut Node<Self>, entry: &Entry, out: &mut Step) -> Done
         requires slot { IsTrue (has_slot node.old.base) }
         requires valid { IsValidEntry entry.now }
         ensures { OnOk result (turn_of node.new out.new ≡ learn on_learned entry.now (turn_of node.old out.old)) };
@@ -34,7 +34,7 @@ impl<K: Learns> Node<K> {
         count: u32,
         entry: &Entry,
         out: &mut Step,
-    ) -> Result<(), OutOfMemory>
+    ) -> Done
         requires slot { slot < 1000000 }
         requires count { count ≤ 1000000 }
         requires entry { IsValidEntry entry.now }
@@ -46,7 +46,7 @@ impl<K: Learns> Node<K> {
     }
 
     /// Learns the entry where its slot is the next.
-    fn learn_next(&mut self, slot: u32, entry: &Entry, out: &mut Step) -> Result<(), OutOfMemory>
+    fn learn_next(&mut self, slot: u32, entry: &Entry, out: &mut Step) -> Done
         requires slot { slot < 1000000 }
         requires entry { IsValidEntry entry.now }
         ensures { OnOk result (turn_of self.new out.new ≡ learn_next K.on_learned slot entry.now (turn_of self.old out.old)) }

@@ -21,4 +21,4 @@ pub use hearing::Hears;
 pub use kind::Kind;
 pub use learning::Learns;
 pub use living::Living;
-pub use node::Node;
+pub use node::{Done, Node};

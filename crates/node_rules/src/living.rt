@@ -8,7 +8,7 @@ ghost use Rattle.node_rules.specs.Nodes.{restart_by};
 ghost use Rattle.node_rules.specs.Turns.{turn_of};
 
 use crate::kind::Kind;
-use crate::node::Node;
+use crate::node::{Done, Node};
 use lease_window::Known;
 use msg_wire::{Config, Event, Item, Items, Message, Step};
 use quota_table::OutOfMemory;
@@ -89,12 +89,7 @@ impl<K: Kind> Living<K> {
 
     /// The step of an event, written into a step that gives nothing yet. After want of memory the node is spent, and what
     /// `out` gives is no step.
-    pub fn step_into(
-        &mut self,
-        alloc: Global,
-        event: &Event,
-        out: &mut Step,
-    ) -> Result<(), OutOfMemory>
+    pub fn step_into(&mut self, alloc: Global, event: &Event, out: &mut Step) -> Done
         requires ready { self.old.spent ≡ false }
         requires valid { IsValidEvent event.now }
         requires empty { out.old ≡ empty_step }
@@ -110,12 +105,7 @@ impl<K: Kind> Living<K> {
     }
 
     /// The step of a message that comes, as `step_into` makes it of the event; the message is not copied.
-    pub fn deliver_into(
-        &mut self,
-        alloc: Global,
-        message: &Message,
-        out: &mut Step,
-    ) -> Result<(), OutOfMemory>
+    pub fn deliver_into(&mut self, alloc: Global, message: &Message, out: &mut Step) -> Done
         requires ready { self.old.spent ≡ false }
         requires valid { IsValidMessage message.now }
         requires empty { out.old ≡ empty_step }
@@ -154,7 +144,7 @@ impl<K: Kind> Living<K> {
 }
 
 /// Takes the items of a vault in order.
-fn fit_all<K: Kind>(node: &mut Node<K>, items: &[Item]) -> Result<(), OutOfMemory>
+fn fit_all<K: Kind>(node: &mut Node<K>, items: &[Item]) -> Done
     requires valid { AreValidItems items.now }
     requires fitting { K.is_fitting node.old }
     ensures { OnOk result (node.new ≡ fold K.fit node.old items.now) }

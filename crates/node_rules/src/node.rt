@@ -13,6 +13,9 @@ use msg_wire::{Item, Mark, Message, Step, What, is_heeded};
 use quota_table::{Entry, OutOfMemory};
 use spec_base::NodeId;
 
+/// What a rule answers: it is done, or it was refused memory.
+pub type Done = Result<(), OutOfMemory>;
+
 /// A node: what every node has, and what its kind has.
 ///
 /// Its methods are the rules of every node: each changes the node, and puts what it stores, sends and shows at the end
@@ -37,7 +40,7 @@ impl<S> Node<S> {
 
     /// Stores an item.
     #[inline(always)]
-    pub fn store(&self, item: Item, out: &mut Step) -> Result<(), OutOfMemory>
+    pub fn store(&self, item: Item, out: &mut Step) -> Done
         ensures { OnOk result (turn_of self.now out.new ≡ store item (turn_of self.now out.old)) }
     {
         out.stable.push(item)
@@ -45,7 +48,7 @@ impl<S> Node<S> {
 
     /// Sends to a node.
     #[inline(always)]
-    pub fn send(&self, to: NodeId, what: What, out: &mut Step) -> Result<(), OutOfMemory>
+    pub fn send(&self, to: NodeId, what: What, out: &mut Step) -> Done
         ensures { OnOk result (turn_of self.now out.new ≡ send to what (turn_of self.now out.old)) }
     {
         out.sends.push(Message {
@@ -57,14 +60,14 @@ impl<S> Node<S> {
 
     /// Shows a mark.
     #[inline(always)]
-    pub fn show(&self, mark: Mark, out: &mut Step) -> Result<(), OutOfMemory>
+    pub fn show(&self, mark: Mark, out: &mut Step) -> Done
         ensures { OnOk result (turn_of self.now out.new ≡ show mark (turn_of self.now out.old)) }
     {
         out.marks.push(mark)
     }
 
     /// Asks a sequencer for the entry that is next, where there is a slot for one more.
-    pub fn ask(&self, to: NodeId, out: &mut Step) -> Result<(), OutOfMemory>
+    pub fn ask(&self, to: NodeId, out: &mut Step) -> Done
         ensures { OnOk result (turn_of self.now out.new ≡ ask to (turn_of self.now out.old)) }
     {
         if !self.base.has_slot() {
@@ -75,7 +78,7 @@ impl<S> Node<S> {
     }
 
     /// Asks on, where more is known elsewhere.
-    pub fn ask_on(&self, from: NodeId, out: &mut Step) -> Result<(), OutOfMemory>
+    pub fn ask_on(&self, from: NodeId, out: &mut Step) -> Done
         ensures { OnOk result (turn_of self.now out.new ≡ ask_on from (turn_of self.now out.old)) }
     {
         if self.base.count() < self.base.seen() {
@@ -100,7 +103,7 @@ impl<S> Node<S> {
     }
 
     /// Asks for the next entry, and counts the tick.
-    pub fn tick(&mut self, out: &mut Step) -> Result<(), OutOfMemory>
+    pub fn tick(&mut self, out: &mut Step) -> Done
         ensures { OnOk result (turn_of self.new out.new ≡ tick (turn_of self.old out.old)) }
     {
         if let Some(to) = self.base.asked() {
@@ -111,7 +114,7 @@ impl<S> Node<S> {
     }
 
     /// Takes a known entry of a vault, where there is a slot for it. At an error all is as before.
-    pub fn fit_known(&mut self, entry: &Entry) -> Result<(), OutOfMemory>
+    pub fn fit_known(&mut self, entry: &Entry) -> Done
         requires { IsValidEntry entry.now }
         ensures ok { OnOk result (self.new ≡ fit_known entry.now self.old) }
         ensures err { OnErr result (self.new ≡ self.old) }
