@@ -5,11 +5,12 @@ use Rattle.std.specs.List.{AllByRecursion, fold}
 use Rattle.msg_wire.specs.Valid.{IsValidConfig, IsNodeOf, IsValidEvent, IsBallot, IsValidItem, AreValidItems}
 use Rattle.node_rules.specs.Names.{NodeId, Config, Event, Entry, Item}
 use Rattle.node_rules.specs.Nodes.{Node, knowing, has_slot}
+use Rattle.node_rules.specs.Lives.{life_of}
 use Rattle.node_rules.proofs.Kept.{IsKept, IsLife, lives, kept_valid, keeping}
 use Rattle.seq_node.specs.States.{SequencerState, acceptor_at}
 use Rattle.seq_node.specs.Steps.{sequencer_step}
 use Rattle.seq_node.specs.Restart.{fresh_node, fit, fit_acceptor, restart_of}
-use Rattle.seq_node.specs.Laws.{sequencer_life, RestartIsTheItems, StepsAreValid}
+use Rattle.seq_node.specs.Laws.{RestartIsTheItems, StepsAreValid}
 use Rattle.seq_node.proofs.Orderly.{fresh_sound, acceptor_valid, acceptor_changed}
 use Rattle.seq_node.proofs.Places.{sequencer_places}
 use Rattle.seq_node.proofs.Walk.{sequencer_walk}
@@ -33,7 +34,7 @@ abbrev any : NodeId → Type 0
 any me = Unit {0}
 
 life : (cfg : Config) (me : NodeId) (events : List Event) → IsValidConfig cfg → IsNodeOf cfg me → AllByRecursion IsValidEvent events
-    → IsLife (sequencer_keeping any) (fresh_node cfg me) (sequencer_life cfg me events)
+    → IsLife (sequencer_keeping any) (fresh_node cfg me) (life_of sequencer_step (fresh_node cfg me) events)
 life cfg me events valid here each = lives (sequencer_keeping any) sequencer_step (fresh_node cfg me) events (kept_step any) (fresh_sound cfg me valid here, tt) refl each
 
 pub restart_is_the_items : RestartIsTheItems
@@ -41,7 +42,7 @@ restart_is_the_items cfg me events valid here each = sym (life cfg me events val
 
 pub steps_are_valid : StepsAreValid
 steps_are_valid cfg me events event valid here each next =
-    kept_valid (sequencer_keeping any) _ _ (kept_step any (sequencer_life cfg me events).node event (life cfg me events valid here each).is next)
+    kept_valid (sequencer_keeping any) _ _ (kept_step any (life_of sequencer_step (fresh_node cfg me) events).node event (life cfg me events valid here each).is next)
 
 -- ---- the items of a vault
 

@@ -10,10 +10,9 @@ use Rattle.majority.specs.declared.answers.AcceptAnswer.{AcceptAnswer}
 use Rattle.majority.specs.declared.answers.AcceptAnswer.TheVariants as accept
 use Rattle.msg_wire.specs.Nodes.{number_of}
 use Rattle.node_rules.specs.Names.{NodeId, Entry, Command}
-use Rattle.node_rules.specs.Names.nodes
-use Rattle.node_rules.specs.Names.sides
 use Rattle.node_rules.specs.Names.items
 use Rattle.node_rules.specs.Names.whats
+use Rattle.node_rules.specs.Acting.{acting}
 use Rattle.node_rules.specs.Turns.{Turn, me_of, own_of, known_of, count_known, agreed, put_own, store, send}
 use Rattle.node_rules.specs.Rules.{tick}
 use Rattle.seq_node.specs.States.{SequencerState, acceptor_at, with_acceptor, with_report, with_idle}
@@ -76,9 +75,9 @@ take_command command t = begin_if_free (put_own (with_wish command (own_of t)) t
 
 -- ---- Tick
 
--- the primary of a row that lags is asked to fill its log up
+-- the acting replica of a row that lags is asked to fill its log up
 abbrev pub fill : Turn SequencerState → Wanted → Turn SequencerState
-fill t wanted = send (nodes.Shard wanted.shard sides.Primary) (whats.Fill wanted.len) t
+fill t wanted = send (acting (agreed t) wanted.shard) (whats.Fill wanted.len) t
 
 -- where there is need, each row that lags is to be filled up
 abbrev pub fill_lagging : Turn SequencerState → Turn SequencerState

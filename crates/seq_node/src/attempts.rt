@@ -11,16 +11,11 @@ use crate::learning::decide;
 use crate::state::Sequencer;
 use majority::{AcceptedAnswer, PromiseAnswer};
 use msg_wire::{Item, Step, What};
-use quota_table::{Entry, OutOfMemory};
+use node_rules::Done;
+use quota_table::Entry;
 
 /// Sends a value: it is accepted here, which is stored, and the others are asked to accept it.
-pub fn send_value(
-    seq: &Sequencer,
-    slot: u32,
-    ballot: u32,
-    value: &Entry,
-    out: &mut Step,
-) -> Result<(), OutOfMemory>
+pub fn send_value(seq: &Sequencer, slot: u32, ballot: u32, value: &Entry, out: &mut Step) -> Done
     ensures { OnOk result (turn_of seq.now out.new ≡ send_value slot ballot value.now (turn_of seq.now out.old)) }
 {
     let item = Item::Accepted {
@@ -55,7 +50,7 @@ pub fn hear_promise(
     ballot: u32,
     report: Option<(u32, Entry)>,
     out: &mut Step,
-) -> Result<(), OutOfMemory>
+) -> Done
     requires { IfSome seq.old.own.attempt (λ (a : AttemptOf). replica < a.attempt.n) }
     ensures { OnOk result (turn_of seq.new out.new ≡ hear_promise replica slot ballot report (turn_of seq.old out.old)) }
 {
@@ -72,7 +67,7 @@ fn count_promise(
     replica: u8,
     report: Option<(u32, Entry)>,
     out: &mut Step,
-) -> Result<(), OutOfMemory>
+) -> Done
     requires { IfSome seq.old.own.attempt (λ (a : AttemptOf). replica < a.attempt.n) }
     ensures { OnOk result (turn_of seq.new out.new ≡ promise_for seq.old.own.attempt replica report (turn_of seq.old out.old)) }
 {
@@ -96,7 +91,7 @@ fn answer_promise(
     slot: u32,
     ballot: u32,
     out: &mut Step,
-) -> Result<(), OutOfMemory>
+) -> Done
     ensures { OnOk result (turn_of seq.now out.new ≡ promise_answered answer.now slot ballot (turn_of seq.now out.old)) }
 {
     match answer {
@@ -112,7 +107,7 @@ pub fn hear_acceptance(
     slot: u32,
     ballot: u32,
     out: &mut Step,
-) -> Result<(), OutOfMemory>
+) -> Done
     requires from { IfSome seq.old.own.attempt (λ (a : AttemptOf). replica < a.attempt.n) }
     requires valid { IfSome seq.old.own.attempt (λ (a : AttemptOf). IfSome a.attempt.sending IsValidEntry) }
     requires slot { IfSome seq.old.own.attempt (λ (a : AttemptOf). IsTrue (has_slot seq.old.base)) }
@@ -126,7 +121,7 @@ pub fn hear_acceptance(
 }
 
 /// An acceptance for the attempt that stands. A value that is chosen now is decided.
-fn count_acceptance(seq: &mut Sequencer, replica: u8, out: &mut Step) -> Result<(), OutOfMemory>
+fn count_acceptance(seq: &mut Sequencer, replica: u8, out: &mut Step) -> Done
     requires from { IfSome seq.old.own.attempt (λ (a : AttemptOf). replica < a.attempt.n) }
     requires valid { IfSome seq.old.own.attempt (λ (a : AttemptOf). IfSome a.attempt.sending IsValidEntry) }
     requires slot { IfSome seq.old.own.attempt (λ (a : AttemptOf). IsTrue (has_slot seq.old.base)) }

@@ -15,10 +15,11 @@ use crate::attempts::{hear_acceptance, hear_promise, send_value};
 use crate::state::{Sequencer, SlotAttempt};
 use crate::values::{value_for, wished_value};
 use msg_wire::{Item, Step, What, number_of};
+use node_rules::Done;
 use quota_table::{Entry, OutOfMemory};
 
 /// Begins where no attempt stands.
-pub fn begin_if_free(seq: &mut Sequencer, out: &mut Step) -> Result<(), OutOfMemory>
+pub fn begin_if_free(seq: &mut Sequencer, out: &mut Step) -> Done
     requires { IsUnderWay (turn_of seq.old out.old) }
     ensures { OnOk result (turn_of seq.new out.new ≡ begin_if_free (turn_of seq.old out.old)) }
 {
@@ -31,7 +32,7 @@ pub fn begin_if_free(seq: &mut Sequencer, out: &mut Step) -> Result<(), OutOfMem
 
 /// Begins at the next slot, where there is a slot and a value.
 #[inline(always)]
-pub fn begin(seq: &mut Sequencer, out: &mut Step) -> Result<(), OutOfMemory>
+pub fn begin(seq: &mut Sequencer, out: &mut Step) -> Done
     requires { IsUnderWay (turn_of seq.old out.old) }
     ensures { OnOk result (turn_of seq.new out.new ≡ begin (turn_of seq.old out.old)) }
 {
@@ -45,7 +46,7 @@ pub fn begin(seq: &mut Sequencer, out: &mut Step) -> Result<(), OutOfMemory>
 }
 
 /// Begins at the next slot with a value. Where no ballot below 2^31 is left nothing begins.
-fn begin_with(seq: &mut Sequencer, value: &Entry, out: &mut Step) -> Result<(), OutOfMemory>
+fn begin_with(seq: &mut Sequencer, value: &Entry, out: &mut Step) -> Done
     requires under_way { IsUnderWay (turn_of seq.old out.old) }
     requires slot { IsTrue (has_slot seq.old.base) }
     requires valid { IsValidEntry value.now }
@@ -100,13 +101,7 @@ fn standing_ballot(seq: &Sequencer, slot: u32) -> u32
 
 /// At ballot 0 the value is sent at once. Another ballot is promised here, which is stored, and the others are asked to
 /// promise it.
-fn first_sends(
-    seq: &Sequencer,
-    slot: u32,
-    ballot: u32,
-    value: &Entry,
-    out: &mut Step,
-) -> Result<(), OutOfMemory>
+fn first_sends(seq: &Sequencer, slot: u32, ballot: u32, value: &Entry, out: &mut Step) -> Done
     ensures { OnOk result (turn_of seq.now out.new ≡ first_sends slot ballot value.now (turn_of seq.now out.old)) }
 {
     if ballot == 0 {
@@ -117,7 +112,7 @@ fn first_sends(
 }
 
 /// A sequencer that is alone is a majority: its own promise and acceptance are heard at once.
-fn alone(seq: &mut Sequencer, slot: u32, ballot: u32, out: &mut Step) -> Result<(), OutOfMemory>
+fn alone(seq: &mut Sequencer, slot: u32, ballot: u32, out: &mut Step) -> Done
     requires { IsUnderWay (turn_of seq.old out.old) }
     ensures { OnOk result (turn_of seq.new out.new ≡ alone slot ballot (turn_of seq.old out.old)) }
 {

@@ -11,10 +11,11 @@ ghost use Rattle.seq_node.specs.Learning.{attempt_over, on_learned, decide};
 
 use crate::state::Sequencer;
 use msg_wire::{Step, What};
-use quota_table::{Entry, OutOfMemory};
+use node_rules::Done;
+use quota_table::Entry;
 
 /// Deciding: the entry is learned, and told to every other node.
-pub fn decide(seq: &mut Sequencer, value: &Entry, out: &mut Step) -> Result<(), OutOfMemory>
+pub fn decide(seq: &mut Sequencer, value: &Entry, out: &mut Step) -> Done
     requires slot { IsTrue (has_slot seq.old.base) }
     requires valid { IsValidEntry value.now }
     ensures { OnOk result (turn_of seq.new out.new ≡ decide value.now (turn_of seq.old out.old)) }
@@ -30,7 +31,7 @@ pub fn decide(seq: &mut Sequencer, value: &Entry, out: &mut Step) -> Result<(), 
 }
 
 /// Learns the entry of the next slot: something happened, and an attempt for the slot ends.
-pub fn learn(seq: &mut Sequencer, entry: &Entry, out: &mut Step) -> Result<(), OutOfMemory>
+pub fn learn(seq: &mut Sequencer, entry: &Entry, out: &mut Step) -> Done
     requires slot { IsTrue (has_slot seq.old.base) }
     requires valid { IsValidEntry entry.now }
     ensures { OnOk result (turn_of seq.new out.new ≡ learn on_learned entry.now (turn_of seq.old out.old)) }

@@ -3,7 +3,7 @@ use crate::restart::{fit, fresh};
 use crate::state::{Sequencer, SequencerState};
 use crate::steps::{deliver, hear, react};
 use msg_wire::{Config, Event, Item, Message, Step};
-use node_rules::{Hears, Kind, Learns, Living};
+use node_rules::{Done, Hears, Kind, Learns, Living};
 use quota_table::{Entry, OutOfMemory};
 use spec_base::NodeId;
 use std::alloc::Global;
@@ -18,7 +18,7 @@ impl Learns for SequencerState {
 
     ghost on_learned = { learning.on_learned };
 
-    fn learn(seq: &mut Sequencer, entry: &Entry, out: &mut Step) -> Result<(), OutOfMemory> {
+    fn learn(seq: &mut Sequencer, entry: &Entry, out: &mut Step) -> Done {
         learn(seq, entry, out)
     }
 }
@@ -31,7 +31,7 @@ impl Hears for SequencerState {
 
     ghost is_under_way = { IsUnderWay };
 
-    fn hear(seq: &mut Sequencer, message: &Message, out: &mut Step) -> Result<(), OutOfMemory> {
+    fn hear(seq: &mut Sequencer, message: &Message, out: &mut Step) -> Done {
         hear(seq, message, out)
     }
 }
@@ -61,28 +61,18 @@ impl Kind for SequencerState {
         Ok(seq)
     }
 
-    fn fit(seq: &mut Sequencer, item: &Item) -> Result<(), OutOfMemory> {
+    fn fit(seq: &mut Sequencer, item: &Item) -> Done {
         fit(seq, item)
     }
 
     fn settle(_seq: &mut Sequencer) {}
 
-    fn deliver(
-        seq: &mut Sequencer,
-        _alloc: Global,
-        message: &Message,
-        out: &mut Step,
-    ) -> Result<(), OutOfMemory> {
+    fn deliver(seq: &mut Sequencer, _alloc: Global, message: &Message, out: &mut Step) -> Done {
         deliver(seq, message, out)?;
         Ok(())
     }
 
-    fn react(
-        seq: &mut Sequencer,
-        _alloc: Global,
-        event: &Event,
-        out: &mut Step,
-    ) -> Result<(), OutOfMemory> {
+    fn react(seq: &mut Sequencer, _alloc: Global, event: &Event, out: &mut Step) -> Done {
         react(seq, event, out)?;
         Ok(())
     }

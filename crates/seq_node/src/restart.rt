@@ -8,7 +8,7 @@ use crate::acceptors::Acceptors;
 use crate::state::{Sequencer, SequencerState};
 use crate::wishes::Wishes;
 use msg_wire::{Config, Item};
-use node_rules::{Node, NodeBase};
+use node_rules::{Done, Node, NodeBase};
 use quota_table::OutOfMemory;
 use spec_base::NodeId;
 use std::alloc::Global;
@@ -44,7 +44,7 @@ pub fn reset(seq: &mut Sequencer)
 }
 
 /// Takes one more item of a vault. A ballot below a promise, or an item of another kind, is passed over.
-pub fn fit(seq: &mut Sequencer, item: &Item) -> Result<(), OutOfMemory>
+pub fn fit(seq: &mut Sequencer, item: &Item) -> Done
     requires { IsValidItem item.now }
     ensures { OnOk result (seq.new ≡ fit seq.old item.now) }
 {

@@ -10,16 +10,12 @@ ghost use Rattle.seq_node.specs.Rules.{tell, hear_learn, hear_prepare, hear_acce
 use crate::state::Sequencer;
 use majority::{AcceptAnswer, PrepareAnswer};
 use msg_wire::{Item, Step, What};
-use quota_table::{Entry, OutOfMemory};
+use node_rules::Done;
+use quota_table::Entry;
 use spec_base::{NodeId, Side};
 
 /// Learn: what is known is told.
-pub fn hear_learn(
-    seq: &Sequencer,
-    from: NodeId,
-    slot: u32,
-    out: &mut Step,
-) -> Result<(), OutOfMemory>
+pub fn hear_learn(seq: &Sequencer, from: NodeId, slot: u32, out: &mut Step) -> Done
     ensures { OnOk result (turn_of seq.now out.new ≡ hear_learn from slot (turn_of seq.now out.old)) }
 {
     if slot < seq.base.count() {
@@ -30,7 +26,7 @@ pub fn hear_learn(
 }
 
 /// Tells the entry of a slot that is known, with the own count.
-fn tell(seq: &Sequencer, to: NodeId, slot: u32, out: &mut Step) -> Result<(), OutOfMemory>
+fn tell(seq: &Sequencer, to: NodeId, slot: u32, out: &mut Step) -> Done
     ensures { OnOk result (turn_of seq.now out.new ≡ tell to slot (turn_of seq.now out.old)) }
 {
     let count = seq.base.count();
@@ -50,7 +46,7 @@ pub fn hear_prepare(
     slot: u32,
     ballot: u32,
     out: &mut Step,
-) -> Result<(), OutOfMemory>
+) -> Done
     ensures { OnOk result (turn_of seq.new out.new ≡ hear_prepare from slot ballot (turn_of seq.old out.old)) }
 {
     if slot < seq.base.count() {
@@ -78,7 +74,7 @@ pub fn hear_accept(
     ballot: u32,
     entry: &Entry,
     out: &mut Step,
-) -> Result<(), OutOfMemory>
+) -> Done
     ensures { OnOk result (turn_of seq.new out.new ≡ hear_accept from slot ballot entry.now (turn_of seq.old out.old)) }
 {
     if slot < seq.base.count() {

@@ -17,10 +17,11 @@ use crate::rules::{hear_accept, hear_learn, hear_prepare, hear_report};
 use crate::state::Sequencer;
 use crate::ticks::{on_tick, take_command};
 use msg_wire::{Event, Message, Step, What, number_of};
+use node_rules::Done;
 use quota_table::{Entry, OutOfMemory};
 
 /// The step of an event, written into a step that gives nothing yet.
-pub fn react(seq: &mut Sequencer, event: &Event, out: &mut Step) -> Result<(), OutOfMemory>
+pub fn react(seq: &mut Sequencer, event: &Event, out: &mut Step) -> Done
     requires sound { IsSequencer seq.old }
     requires valid { IsValidEvent event.now }
     requires empty { out.old ≡ empty_step }
@@ -39,7 +40,7 @@ pub fn react(seq: &mut Sequencer, event: &Event, out: &mut Step) -> Result<(), O
 }
 
 /// The step of a message that comes.
-pub fn deliver(seq: &mut Sequencer, message: &Message, out: &mut Step) -> Result<(), OutOfMemory>
+pub fn deliver(seq: &mut Sequencer, message: &Message, out: &mut Step) -> Done
     requires sound { IsSequencer seq.old }
     requires valid { IsValidMessage message.now }
     requires empty { out.old ≡ empty_step }
@@ -52,7 +53,7 @@ pub fn deliver(seq: &mut Sequencer, message: &Message, out: &mut Step) -> Result
 /// The end of the step of an event that ends with a beginning: sequencer 0 begins where no attempt stands.
 ///
 /// A restart does not end so, nor do a command and a tick, which have begun by their own rules.
-fn finish(seq: &mut Sequencer, out: &mut Step) -> Result<(), OutOfMemory>
+fn finish(seq: &mut Sequencer, out: &mut Step) -> Done
     requires { IsUnderWay (turn_of seq.old out.old) }
     ensures { (event : _) → ends_with_beginning event ≡ true → OnOk result (turn_of seq.new out.new ≡ finish event (turn_of seq.old out.old)) }
 {
@@ -65,7 +66,7 @@ fn finish(seq: &mut Sequencer, out: &mut Step) -> Result<(), OutOfMemory>
 }
 
 /// A message that is heeded.
-pub fn hear(seq: &mut Sequencer, message: &Message, out: &mut Step) -> Result<(), OutOfMemory>
+pub fn hear(seq: &mut Sequencer, message: &Message, out: &mut Step) -> Done
     requires under_way { IsUnderWay (turn_of seq.old out.old) }
     requires valid { IsValidMessage message.now }
     requires heeded { IsTrue (is_heeded seq.old.base.cfg seq.old.base.me message.now) }

@@ -15,18 +15,14 @@ use crate::state::Sequencer;
 use crate::values::{has_uncovered, lengths};
 use lag_fix::{Wanted, lagging};
 use msg_wire::{Command, Step, What, number_of};
-use quota_table::OutOfMemory;
+use node_rules::Done;
 use spec_base::{NodeId, Side};
 
 /// The most wishes that stand at once.
 const MOST_WISHES: usize = 16;
 
 /// Command: a wish more, and a beginning where no attempt stands.
-pub fn take_command(
-    seq: &mut Sequencer,
-    command: &Command,
-    out: &mut Step,
-) -> Result<(), OutOfMemory>
+pub fn take_command(seq: &mut Sequencer, command: &Command, out: &mut Step) -> Done
     requires under_way { IsUnderWay (turn_of seq.old out.old) }
     requires valid { IsValidCommand command.now }
     ensures { OnOk result (turn_of seq.new out.new ≡ take_command command.now (turn_of seq.old out.old)) }
@@ -36,7 +32,7 @@ pub fn take_command(
 }
 
 /// Puts a wish last. Where 16 stand already it is passed over.
-fn put_wish(seq: &mut Sequencer, command: &Command) -> Result<(), OutOfMemory>
+fn put_wish(seq: &mut Sequencer, command: &Command) -> Done
     ensures { OnOk result (seq.new ≡ with_own (with_wish command.now seq.old.own) seq.old) }
 {
     if seq.own.wishes.len() < MOST_WISHES {
@@ -47,7 +43,7 @@ fn put_wish(seq: &mut Sequencer, command: &Command) -> Result<(), OutOfMemory>
 }
 
 /// Tick: it asks for the next entry, and is idle for one more tick. Once it waited long enough it begins.
-pub fn on_tick(seq: &mut Sequencer, out: &mut Step) -> Result<(), OutOfMemory>
+pub fn on_tick(seq: &mut Sequencer, out: &mut Step) -> Done
     requires { IsUnderWay (turn_of seq.old out.old) }
     ensures { OnOk result (turn_of seq.new out.new ≡ on_tick (turn_of seq.old out.old)) }
 {
@@ -57,7 +53,7 @@ pub fn on_tick(seq: &mut Sequencer, out: &mut Step) -> Result<(), OutOfMemory>
 }
 
 /// Without an attempt it fills and begins once it waited long enough, with one it begins anew after 3 ticks more.
-fn begin_when_idle(seq: &mut Sequencer, out: &mut Step) -> Result<(), OutOfMemory>
+fn begin_when_idle(seq: &mut Sequencer, out: &mut Step) -> Done
     requires { IsUnderWay (turn_of seq.old out.old) }
     ensures { OnOk result (turn_of seq.new out.new ≡ begin_when_idle (turn_of seq.old out.old)) }
 {
@@ -101,7 +97,7 @@ fn idle_longer(seq: &mut Sequencer)
 }
 
 /// Where there is need, asks the primary of each row that lags to fill its log up.
-fn fill_lagging(seq: &Sequencer, out: &mut Step) -> Result<(), OutOfMemory>
+fn fill_lagging(seq: &Sequencer, out: &mut Step) -> Done
     ensures { OnOk result (turn_of seq.now out.new ≡ fill_lagging (turn_of seq.now out.old)) }
 {
     if !has_uncovered(seq) {
@@ -117,7 +113,7 @@ fn fill_lagging(seq: &Sequencer, out: &mut Step) -> Result<(), OutOfMemory>
 }
 
 /// Asks the primary of each row to fill its log up, in order.
-fn fill_rows(seq: &Sequencer, rows: &[Wanted], out: &mut Step) -> Result<(), OutOfMemory>
+fn fill_rows(seq: &Sequencer, rows: &[Wanted], out: &mut Step) -> Done
     ensures { OnOk result (turn_of seq.now out.new ≡ fold fill (turn_of seq.now out.old) rows.now) }
 {
     for row in rows {
