@@ -7,13 +7,14 @@ use Rattle.msg_wire.specs.Steps.{IsValidStep}
 use Rattle.node_rules.specs.Names.{NodeId, Config, Event, Item, Record}
 use Rattle.node_rules.specs.Nodes.{Node, has_slot}
 use Rattle.node_rules.specs.Turns.{Turn, started, step_of}
+use Rattle.node_rules.specs.Lives.{life_of}
 use Rattle.node_rules.proofs.Limits.{base_fresh, base_knowing}
 use Rattle.node_rules.proofs.Kept.{IsKept, IsLife, lives, kept_valid, keeping}
 use Rattle.shard_node.specs.States.{ReplicaState}
 use Rattle.shard_node.specs.Steps.{handle, replica_step}
 use Rattle.shard_node.specs.Restart.{fresh_node, fit, fit_records}
 use Rattle.shard_node.specs.Sound.{IsReplica}
-use Rattle.shard_node.specs.Laws.{replica_life, RestartIsTheItems, StepsAreValid}
+use Rattle.shard_node.specs.Laws.{RestartIsTheItems, StepsAreValid}
 use Rattle.shard_node.proofs.Places.{replica_places}
 use Rattle.shard_node.proofs.Walk.{replica_handled, replica_walk}
 use Rattle.shard_node.proofs.Keeps.{replica_keeping, replica_keeps, replica_on, replica_grown}
@@ -43,14 +44,14 @@ fresh_sound cfg me valid here = record {
 }
 
 life : (cfg : Config) (me : NodeId) (events : List Event) → IsValidConfig cfg → IsNodeOf cfg me → AllByRecursion IsValidEvent events
-    → IsLife replica_keeping (fresh_node cfg me) (replica_life cfg me events)
+    → IsLife replica_keeping (fresh_node cfg me) (life_of replica_step (fresh_node cfg me) events)
 life cfg me events valid here each = lives replica_keeping replica_step (fresh_node cfg me) events kept_step (fresh_sound cfg me valid here) refl each
 
 pub restart_is_the_items : RestartIsTheItems
 restart_is_the_items cfg me events valid here each = sym (life cfg me events valid here each).leads
 
 pub steps_are_valid : StepsAreValid
-steps_are_valid cfg me events event valid here each next = kept_valid replica_keeping _ _ (kept_step (replica_life cfg me events).node event (life cfg me events valid here each).is next)
+steps_are_valid cfg me events event valid here each next = kept_valid replica_keeping _ _ (kept_step (life_of replica_step (fresh_node cfg me) events).node event (life cfg me events valid here each).is next)
 
 -- ---- the items of a vault
 

@@ -6,12 +6,12 @@ use Rattle.cut_core.specs.declared.effects.Effect.TheVariants.{Removed}
 use Rattle.cut_core.specs.Agreements.{Agreement}
 use Rattle.cut_core.specs.Effects.{effect_of}
 use Rattle.cut_core.specs.Map.{covered_locals, placed}
-use Rattle.msg_wire.specs.Nodes.{is_primary}
 use Rattle.node_rules.specs.Names.{Record, Entry}
 use Rattle.node_rules.specs.Names.nodes
 use Rattle.node_rules.specs.Names.records
 use Rattle.node_rules.specs.Names.marks
 use Rattle.node_rules.specs.Names.whats
+use Rattle.node_rules.specs.Acting.{is_acting}
 use Rattle.node_rules.specs.Turns.{Turn, me_of, own_of, agreed, put_own, send, show}
 use Rattle.shard_node.specs.States.{ReplicaState, shard_of, log_of, covered_of, durable_to, with_promised}
 
@@ -20,10 +20,10 @@ abbrev pub tell_client : ℕ → Record → Turn ReplicaState → Turn ReplicaSt
 tell_client position (records.Data client number body) t = send (nodes.Client client) (whats.Ack number position) t
 tell_client position records.Noop t = t
 
--- a record is confirmed at its position; the primary tells its client
+-- a record is confirmed at its position; the acting replica tells its client
 abbrev pub confirm_record : ℕ → Record → Turn ReplicaState → Turn ReplicaState
 confirm_record position rec t =
-    if is_primary (me_of t) then tell_client position rec (show (marks.Confirm position rec) t) else show (marks.Confirm position rec) t
+    if is_acting (agreed t) (me_of t) then tell_client position rec (show (marks.Confirm position rec) t) else show (marks.Confirm position rec) t
 
 -- where the local has a position and the log a record
 abbrev pub confirm_at : Option ℕ → Option Record → Turn ReplicaState → Turn ReplicaState

@@ -1,11 +1,12 @@
--- The end of a primary's step: durable records that have a position are promised and delivered.
+-- The end of an acting replica's step: durable records that have a position are promised and delivered.
 use Rattle.std.specs.Prelude.{ℕ, ◌+◌, ◌-◌, is_some, if◌then◌else◌, List, Option, Some, None, slice_get}
 use Rattle.std.specs.List.{fold, range_with_len, take_while}
 use Rattle.cut_core.specs.Map.{leased}
-use Rattle.msg_wire.specs.Nodes.{is_primary, consumers_of}
+use Rattle.msg_wire.specs.Nodes.{consumers_of}
 use Rattle.node_rules.specs.Names.{Record}
 use Rattle.node_rules.specs.Names.marks
 use Rattle.node_rules.specs.Names.whats
+use Rattle.node_rules.specs.Acting.{is_acting}
 use Rattle.node_rules.specs.Turns.{Turn, cfg_of, me_of, own_of, agreed, put_own, send_all, show}
 use Rattle.shard_node.specs.States.{ReplicaState, shard_of, log_of, with_promised}
 
@@ -33,6 +34,6 @@ promise t local =
 abbrev pub promise_some : Turn ReplicaState → Turn ReplicaState
 promise_some t = fold promise t (to_promise t)
 
--- a primary promises all that it can
+-- an acting replica promises all that it can
 abbrev pub promise_all : Turn ReplicaState → Turn ReplicaState
-promise_all t = if is_primary (me_of t) then promise_some t else t
+promise_all t = if is_acting (agreed t) (me_of t) then promise_some t else t

@@ -8,18 +8,13 @@ ghost use Rattle.shard_node.specs.Learning.{tell_client, confirm_record, confirm
 use crate::state::{Replica, covered_of, is_primary, shard_of};
 use cut_core::Effect;
 use msg_wire::{Mark, Step, What};
-use quota_table::OutOfMemory;
+use node_rules::Done;
 use record_codec::Record;
 use spec_base::NodeId;
 
 /// What follows of an entry that is learned now: what is covered is durable, what is newly covered is confirmed, and a
 /// removal is noticed. `before` is how many locals were covered before it.
-pub fn on_learned(
-    replica: &mut Replica,
-    before: u64,
-    effect: Effect,
-    out: &mut Step,
-) -> Result<(), OutOfMemory>
+pub fn on_learned(replica: &mut Replica, before: u64, effect: Effect, out: &mut Step) -> Done
     ensures { OnOk result (turn_of replica.new out.new ≡ notice effect (confirm_from before (covered_is_durable (turn_of replica.old out.old)))) }
 {
     replica.own.durable = replica.own.durable.max(covered_of(replica));
@@ -28,7 +23,7 @@ pub fn on_learned(
 }
 
 /// Confirms the locals that are covered now and were not before, rising.
-fn confirm_from(replica: &Replica, before: u64, out: &mut Step) -> Result<(), OutOfMemory>
+fn confirm_from(replica: &Replica, before: u64, out: &mut Step) -> Done
     ensures { OnOk result (turn_of replica.now out.new ≡ confirm_from before (turn_of replica.now out.old)) }
 {
     for local in before..covered_of(replica) {
@@ -38,7 +33,7 @@ fn confirm_from(replica: &Replica, before: u64, out: &mut Step) -> Result<(), Ou
 }
 
 /// Confirms a local that is covered now. A record that the log does not have is left out; no run comes there.
-fn confirm(replica: &Replica, local: u64, out: &mut Step) -> Result<(), OutOfMemory>
+fn confirm(replica: &Replica, local: u64, out: &mut Step) -> Done
     ensures { OnOk result (turn_of replica.now out.new ≡ confirm (turn_of replica.now out.old) local) }
 {
     let Some(position) = replica.base.agreed().place(shard_of(replica), local) else {
@@ -51,12 +46,7 @@ fn confirm(replica: &Replica, local: u64, out: &mut Step) -> Result<(), OutOfMem
 }
 
 /// Confirms a record at its position; the primary tells its client.
-fn confirm_record(
-    replica: &Replica,
-    position: u64,
-    rec: &Record,
-    out: &mut Step,
-) -> Result<(), OutOfMemory>
+fn confirm_record(replica: &Replica, position: u64, rec: &Record, out: &mut Step) -> Done
     requires { IsValidRecord rec.now }
     ensures { OnOk result (turn_of replica.now out.new ≡ confirm_record position rec.now (turn_of replica.now out.old)) }
 {
@@ -76,12 +66,7 @@ fn confirm_record(
 }
 
 /// Tells the client of a record its position. A record that fills a place is nobody's.
-fn tell_client(
-    replica: &Replica,
-    position: u64,
-    rec: &Record,
-    out: &mut Step,
-) -> Result<(), OutOfMemory>
+fn tell_client(replica: &Replica, position: u64, rec: &Record, out: &mut Step) -> Done
     requires { IsValidRecord rec.now }
     ensures { OnOk result (turn_of replica.now out.new ≡ tell_client position rec.now (turn_of replica.now out.old)) }
 {
@@ -97,7 +82,7 @@ fn tell_client(
 }
 
 /// Notices a removal: what was promised past the covered locals is promised anew.
-fn notice(replica: &mut Replica, effect: Effect, out: &mut Step) -> Result<(), OutOfMemory>
+fn notice(replica: &mut Replica, effect: Effect, out: &mut Step) -> Done
     ensures { OnOk result (turn_of replica.new out.new ≡ notice effect (turn_of replica.old out.old)) }
 {
     if let Effect::Removed { first, .. } = effect {

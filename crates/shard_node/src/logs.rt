@@ -11,7 +11,7 @@ ghost use Rattle.shard_node.specs.Logs.{report, replicate_at, take_in, acknowled
 use crate::puts::{put_noops, put_record};
 use crate::state::{MOST, Replica, is_gone, shard_of};
 use msg_wire::{Item, Step, What, number_of};
-use quota_table::OutOfMemory;
+use node_rules::Done;
 use record_codec::{Body, Record};
 use shard_log::Appended;
 use spec_base::{NodeId, Side};
@@ -20,7 +20,7 @@ use spec_base::{NodeId, Side};
 const MOST_FILLED: u64 = 64;
 
 /// Tells every sequencer how long the log is.
-pub fn report(replica: &Replica, out: &mut Step) -> Result<(), OutOfMemory>
+pub fn report(replica: &Replica, out: &mut Step) -> Done
     ensures { OnOk result (turn_of replica.now out.new ≡ report (turn_of replica.now out.old)) }
 {
     let len = replica.own.log.len();
@@ -28,12 +28,7 @@ pub fn report(replica: &Replica, out: &mut Step) -> Result<(), OutOfMemory>
 }
 
 /// Sends the backup a record.
-pub fn replicate_at(
-    replica: &Replica,
-    local: u64,
-    rec: &Record,
-    out: &mut Step,
-) -> Result<(), OutOfMemory>
+pub fn replicate_at(replica: &Replica, local: u64, rec: &Record, out: &mut Step) -> Done
     ensures { OnOk result (turn_of replica.now out.new ≡ replicate_at local rec.now (turn_of replica.now out.old)) }
 {
     let backup = NodeId::Shard(shard_of(replica), Side::Backup);
@@ -48,7 +43,7 @@ pub fn acknowledge(
     number: u64,
     local: u64,
     out: &mut Step,
-) -> Result<(), OutOfMemory>
+) -> Done
     ensures { OnOk result (turn_of replica.now out.new ≡ acknowledge client number local (turn_of replica.now out.old)) }
 {
     match replica.base.agreed().place(shard_of(replica), local) {
@@ -66,7 +61,7 @@ pub fn hear_append(
     number: u64,
     body: &Body,
     out: &mut Step,
-) -> Result<(), OutOfMemory>
+) -> Done
     requires { number_of client ≤ 5 }
     ensures { OnOk result (turn_of replica.new out.new ≡ hear_append client first number body.now (turn_of replica.old out.old)) }
 {
@@ -84,7 +79,7 @@ fn offer(
     number: u64,
     body: &Body,
     out: &mut Step,
-) -> Result<(), OutOfMemory>
+) -> Done
     requires client { number_of client ≤ 5 }
     requires number { number < 2 ^ 48 }
     requires room { length replica.old.own.log < 2 ^ 48 }
@@ -110,17 +105,18 @@ fn offer(
     }
 }
 
-/// Stores a record that the log has taken, copies it to the backup, and reports.
-fn pass_on(replica: &Replica, local: u64, rec: Record, out: &mut Step) -> Result<(), OutOfMemory>
+/// Stores a record that the log has taken, then copies it to the backup, and reports.
+fn pass_on(replica: &Replica, local: u64, rec: Record, out: &mut Step) -> Done
     ensures { OnOk result (turn_of replica.now out.new ≡ report (replicate_at local rec (store (TakenItem rec) (turn_of replica.now out.old)))) }
 {
+    let taken = Item::Taken { rec: rec.clone()? };
+    replica.store(taken, out)?;
     replicate_at(replica, local, &rec, out)?;
-    replica.store(Item::Taken { rec }, out)?;
     report(replica, out)
 }
 
 /// Fill: a primary whose shard is not gone fills up to 64 places at its log's end, as far as is wanted.
-pub fn hear_fill(replica: &mut Replica, wanted: u64, out: &mut Step) -> Result<(), OutOfMemory>
+pub fn hear_fill(replica: &mut Replica, wanted: u64, out: &mut Step) -> Done
     requires { wanted ≤ 2 ^ 48 }
     ensures { OnOk result (turn_of replica.new out.new ≡ hear_fill wanted (turn_of replica.old out.old)) }
 {
@@ -135,7 +131,7 @@ pub fn hear_fill(replica: &mut Replica, wanted: u64, out: &mut Step) -> Result<(
 }
 
 /// Fills places at the log's end, and stores that.
-fn fill(replica: &mut Replica, count: u8, out: &mut Step) -> Result<(), OutOfMemory>
+fn fill(replica: &mut Replica, count: u8, out: &mut Step) -> Done
     ensures { OnOk result (turn_of replica.new out.new ≡ filled count (turn_of replica.old out.old)) }
 {
     put_noops(replica, count)?;
@@ -143,12 +139,7 @@ fn fill(replica: &mut Replica, count: u8, out: &mut Step) -> Result<(), OutOfMem
 }
 
 /// Sends the backup the filled places from a local on.
-fn replicate_noops(
-    replica: &Replica,
-    from: u64,
-    count: u64,
-    out: &mut Step,
-) -> Result<(), OutOfMemory>
+fn replicate_noops(replica: &Replica, from: u64, count: u64, out: &mut Step) -> Done
     requires { from + count ≤ 2 ^ 48 }
     ensures { OnOk result (turn_of replica.now out.new ≡ replicate_noops from count (turn_of replica.now out.old)) }
 {
@@ -165,7 +156,7 @@ pub fn hear_replicate(
     local: u64,
     rec: &Record,
     out: &mut Step,
-) -> Result<(), OutOfMemory>
+) -> Done
     requires { IsValidRecord rec.now }
     ensures { OnOk result (turn_of replica.new out.new ≡ hear_replicate from local rec.now (turn_of replica.old out.old)) }
 {
@@ -182,7 +173,7 @@ pub fn hear_replicate(
 }
 
 /// Takes a record at the log's end, and stores it.
-fn take_in(replica: &mut Replica, rec: &Record, out: &mut Step) -> Result<(), OutOfMemory>
+fn take_in(replica: &mut Replica, rec: &Record, out: &mut Step) -> Done
     requires { IsValidRecord rec.now }
     ensures { OnOk result (turn_of replica.new out.new ≡ take_in rec.now (turn_of replica.old out.old)) }
 {
@@ -192,7 +183,7 @@ fn take_in(replica: &mut Replica, rec: &Record, out: &mut Step) -> Result<(), Ou
 }
 
 /// Tells a node how long the log is.
-fn confirm_length(replica: &Replica, to: NodeId, out: &mut Step) -> Result<(), OutOfMemory>
+fn confirm_length(replica: &Replica, to: NodeId, out: &mut Step) -> Done
     ensures { OnOk result (turn_of replica.now out.new ≡ confirm_length to (turn_of replica.now out.old)) }
 {
     let len = replica.own.log.len();

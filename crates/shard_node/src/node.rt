@@ -6,7 +6,7 @@ use crate::restart::{fit, fresh, reset};
 use crate::state::{Replica, ReplicaState, covered_of, durable_of};
 use crate::steps::{deliver, hear, react};
 use msg_wire::{Config, Event, Item, Message, Step};
-use node_rules::{Hears, Kind, Learns, Living};
+use node_rules::{Done, Hears, Kind, Learns, Living};
 use quota_table::{Entry, OutOfMemory};
 use spec_base::NodeId;
 use std::alloc::Global;
@@ -21,7 +21,7 @@ impl Learns for ReplicaState {
 
     ghost on_learned = { learning.on_learned };
 
-    fn learn(replica: &mut Replica, entry: &Entry, out: &mut Step) -> Result<(), OutOfMemory> {
+    fn learn(replica: &mut Replica, entry: &Entry, out: &mut Step) -> Done {
         let before = covered_of(replica);
         let effect = replica.learn(entry, out)?;
         on_learned(replica, before, effect, out)
@@ -35,7 +35,7 @@ impl Hears for ReplicaState {
 
     ghost is_under_way = { λ _. Unit {0} };
 
-    fn hear(replica: &mut Replica, message: &Message, out: &mut Step) -> Result<(), OutOfMemory> {
+    fn hear(replica: &mut Replica, message: &Message, out: &mut Step) -> Done {
         hear(replica, message, out)
     }
 }
@@ -65,7 +65,7 @@ impl Kind for ReplicaState {
         Ok(replica)
     }
 
-    fn fit(replica: &mut Replica, item: &Item) -> Result<(), OutOfMemory> {
+    fn fit(replica: &mut Replica, item: &Item) -> Done {
         fit(replica, item)
     }
 
@@ -73,22 +73,12 @@ impl Kind for ReplicaState {
         reset(replica);
     }
 
-    fn deliver(
-        replica: &mut Replica,
-        _alloc: Global,
-        message: &Message,
-        out: &mut Step,
-    ) -> Result<(), OutOfMemory> {
+    fn deliver(replica: &mut Replica, _alloc: Global, message: &Message, out: &mut Step) -> Done {
         deliver(replica, message, out)?;
         Ok(())
     }
 
-    fn react(
-        replica: &mut Replica,
-        _alloc: Global,
-        event: &Event,
-        out: &mut Step,
-    ) -> Result<(), OutOfMemory> {
+    fn react(replica: &mut Replica, _alloc: Global, event: &Event, out: &mut Step) -> Done {
         react(replica, event, out)?;
         Ok(())
     }

@@ -9,10 +9,10 @@ ghost use Rattle.shard_node.specs.Promises.{promise_record, promise, promise_all
 
 use crate::state::{Replica, is_primary, shard_of};
 use msg_wire::{Mark, Step, What};
-use quota_table::OutOfMemory;
+use node_rules::Done;
 
 /// A primary promises all that it can.
-pub fn promise_all(replica: &mut Replica, out: &mut Step) -> Result<(), OutOfMemory>
+pub fn promise_all(replica: &mut Replica, out: &mut Step) -> Done
     requires { replica.old.own.durable ≤ 2 ^ 48 }
     ensures { OnOk result (turn_of replica.new out.new ≡ promise_all (turn_of replica.old out.old)) }
 {
@@ -24,7 +24,7 @@ pub fn promise_all(replica: &mut Replica, out: &mut Step) -> Result<(), OutOfMem
 }
 
 /// Promises the durable locals, up to the first that no known window gives a position.
-fn promise_some(replica: &mut Replica, out: &mut Step) -> Result<(), OutOfMemory>
+fn promise_some(replica: &mut Replica, out: &mut Step) -> Done
     requires { replica.old.own.durable ≤ 2 ^ 48 }
     ensures { OnOk result (turn_of replica.new out.new ≡ promise_some (turn_of replica.old out.old)) }
 {
@@ -49,12 +49,7 @@ fn lease_of(replica: &Replica, local: u64) -> Option<u64>
 
 /// Promises the record of a local at its position, and delivers it to every consumer. A record that the log does not
 /// have is left out; no run comes there.
-fn promise_record(
-    replica: &Replica,
-    position: u64,
-    local: u64,
-    out: &mut Step,
-) -> Result<(), OutOfMemory>
+fn promise_record(replica: &Replica, position: u64, local: u64, out: &mut Step) -> Done
     ensures { OnOk result (turn_of replica.now out.new ≡ promise_record (Some position) (slice_get replica.now.own.log local) local (turn_of replica.now out.old)) }
 {
     let Some(rec) = replica.own.log.get(local) else {

@@ -7,11 +7,11 @@ ghost use Rattle.node_rules.specs.Nodes.{with_own};
 ghost use Rattle.shard_node.specs.States.{with_log};
 
 use crate::state::Replica;
-use quota_table::OutOfMemory;
+use node_rules::Done;
 use record_codec::Record;
 
 /// Puts a record at the log's end.
-pub fn put_record(replica: &mut Replica, rec: &Record) -> Result<(), OutOfMemory>
+pub fn put_record(replica: &mut Replica, rec: &Record) -> Done
     requires { IsValidRecord rec.now }
     ensures { OnOk result (replica.new ≡ with_own (with_log (replica.old.own.log ++ rec.now ∷ []) replica.old.own) replica.old) }
 {
@@ -22,7 +22,7 @@ pub fn put_record(replica: &mut Replica, rec: &Record) -> Result<(), OutOfMemory
 }
 
 /// Fills places at the log's end.
-pub fn put_noops(replica: &mut Replica, count: u8) -> Result<(), OutOfMemory>
+pub fn put_noops(replica: &mut Replica, count: u8) -> Done
     ensures { OnOk result (replica.new ≡ with_own (with_log (replica.old.own.log ++ replicate count Noop) replica.old.own) replica.old) }
 {
     for _place in 0..count {

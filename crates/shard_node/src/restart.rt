@@ -9,7 +9,7 @@ ghost use Rattle.shard_node.specs.Restart.{fresh_node, fit_records, fit, reset_o
 use crate::puts::{put_noops, put_record};
 use crate::state::{MOST, Replica, ReplicaState, covered_of};
 use msg_wire::{Config, Item};
-use node_rules::{Node, NodeBase};
+use node_rules::{Done, Node, NodeBase};
 use quota_table::OutOfMemory;
 use record_codec::Record;
 use shard_log::ShardLog;
@@ -22,13 +22,14 @@ pub fn fresh(alloc: Global, cfg: &Config, me: NodeId) -> Result<Replica, OutOfMe
     requires node { IsNodeOf cfg.now me }
     ensures { IfOk result (λ replica. replica ≡ fresh_node cfg.now me) }
 {
-    let base = NodeBase::new(alloc, cfg, me)?;
-    let own = ReplicaState {
-        log: ShardLog::new(alloc),
-        durable: 0,
-        promised: 0,
-    };
-    Ok(Node { base, own })
+    Ok(Node {
+        base: NodeBase::new(alloc, cfg, me)?,
+        own: ReplicaState {
+            log: ShardLog::new(alloc),
+            durable: 0,
+            promised: 0,
+        },
+    })
 }
 
 /// Forgets what a restart forgets: the known entries and the log stay, and what is covered is durable and promised.
@@ -42,7 +43,7 @@ pub fn reset(replica: &mut Replica)
 }
 
 /// Takes one more item of a vault. One that does not fit is passed over.
-pub fn fit(replica: &mut Replica, item: &Item) -> Result<(), OutOfMemory>
+pub fn fit(replica: &mut Replica, item: &Item) -> Done
     requires { IsValidItem item.now }
     ensures { OnOk result (replica.new ≡ fit replica.old item.now) }
 {
@@ -55,7 +56,7 @@ pub fn fit(replica: &mut Replica, item: &Item) -> Result<(), OutOfMemory>
 }
 
 /// Puts a record at the log's end, where there is room.
-fn fit_record(replica: &mut Replica, rec: &Record) -> Result<(), OutOfMemory>
+fn fit_record(replica: &mut Replica, rec: &Record) -> Done
     requires { IsValidRecord rec.now }
     ensures { OnOk result (replica.new ≡ fit_records (rec.now ∷ []) replica.old) }
 {
@@ -67,7 +68,7 @@ fn fit_record(replica: &mut Replica, rec: &Record) -> Result<(), OutOfMemory>
 }
 
 /// Fills places at the log's end, where there is room for all of them.
-fn fit_noops(replica: &mut Replica, count: u8) -> Result<(), OutOfMemory>
+fn fit_noops(replica: &mut Replica, count: u8) -> Done
     requires { 1 ≤ count }
     ensures { OnOk result (replica.new ≡ fit_records (replicate count Noop) replica.old) }
 {

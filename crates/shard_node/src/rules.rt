@@ -9,7 +9,7 @@ ghost use Rattle.shard_node.specs.Rules.{hear_replicated, hear_fetch, answer_fat
 use crate::logs::{acknowledge, replicate_at, report};
 use crate::state::{Replica, durable_of, is_primary, shard_of};
 use msg_wire::{Step, What, number_of};
-use quota_table::OutOfMemory;
+use node_rules::Done;
 use spec_base::NodeId;
 
 /// How many records a tick sends the backup once more, at most.
@@ -24,12 +24,7 @@ pub fn hear_replicated(replica: &mut Replica, len: u64)
 }
 
 /// Fetch: a durable record is delivered.
-pub fn hear_fetch(
-    replica: &Replica,
-    from: NodeId,
-    local: u64,
-    out: &mut Step,
-) -> Result<(), OutOfMemory>
+pub fn hear_fetch(replica: &Replica, from: NodeId, local: u64, out: &mut Step) -> Done
     ensures { OnOk result (turn_of replica.now out.new ≡ hear_fetch from local (turn_of replica.now out.old)) }
 {
     if local >= durable_of(replica) {
@@ -51,7 +46,7 @@ pub fn hear_ask_fate(
     first: u64,
     least: u64,
     out: &mut Step,
-) -> Result<(), OutOfMemory>
+) -> Done
     requires { number_of client ≤ 5 }
     ensures { OnOk result (turn_of replica.now out.new ≡ hear_ask_fate client first least (turn_of replica.now out.old)) }
 {
@@ -67,13 +62,7 @@ pub fn hear_ask_fate(
 }
 
 /// A number below the client's next one is covered here, and its position goes back; else the next one does.
-fn answer_fate(
-    replica: &Replica,
-    client: NodeId,
-    least: u64,
-    next: u64,
-    out: &mut Step,
-) -> Result<(), OutOfMemory>
+fn answer_fate(replica: &Replica, client: NodeId, least: u64, next: u64, out: &mut Step) -> Done
     requires { number_of client ≤ 5 }
     ensures { OnOk result (turn_of replica.now out.new ≡ answer_fate client least next (turn_of replica.now out.old)) }
 {
@@ -91,7 +80,7 @@ fn answer_fate(
 }
 
 /// Tick: it asks for the next entry, reports, and a primary sends its backup once more what is not durable yet.
-pub fn on_tick(replica: &mut Replica, out: &mut Step) -> Result<(), OutOfMemory>
+pub fn on_tick(replica: &mut Replica, out: &mut Step) -> Done
     requires { replica.old.own.durable ≤ 2 ^ 48 }
     ensures { OnOk result (turn_of replica.new out.new ≡ on_tick (turn_of replica.old out.old)) }
 {
@@ -101,7 +90,7 @@ pub fn on_tick(replica: &mut Replica, out: &mut Step) -> Result<(), OutOfMemory>
 }
 
 /// A primary sends its backup the next 8 records that are not known to be durable.
-fn replicate_some(replica: &Replica, out: &mut Step) -> Result<(), OutOfMemory>
+fn replicate_some(replica: &Replica, out: &mut Step) -> Done
     requires { replica.now.own.durable ≤ 2 ^ 48 }
     ensures { OnOk result (turn_of replica.now out.new ≡ replicate_some (turn_of replica.now out.old)) }
 {
@@ -113,12 +102,7 @@ fn replicate_some(replica: &Replica, out: &mut Step) -> Result<(), OutOfMemory>
 }
 
 /// The records at several locals, as far as there are any, are sent to the backup.
-fn replicate_from(
-    replica: &Replica,
-    from: u64,
-    count: u64,
-    out: &mut Step,
-) -> Result<(), OutOfMemory>
+fn replicate_from(replica: &Replica, from: u64, count: u64, out: &mut Step) -> Done
     requires { from + count < 2 ^ 64 }
     ensures { OnOk result (turn_of replica.now out.new ≡ replicate_from from count (turn_of replica.now out.old)) }
 {
@@ -129,7 +113,7 @@ fn replicate_from(
 }
 
 /// The record at a local, if there is one, is sent to the backup.
-fn replicate_again(replica: &Replica, local: u64, out: &mut Step) -> Result<(), OutOfMemory>
+fn replicate_again(replica: &Replica, local: u64, out: &mut Step) -> Done
     ensures { OnOk result (turn_of replica.now out.new ≡ replicate_again (turn_of replica.now out.old) local) }
 {
     match replica.own.log.get(local) {

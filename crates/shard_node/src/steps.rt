@@ -13,11 +13,11 @@ use crate::restart::reset;
 use crate::rules::{hear_ask_fate, hear_fetch, hear_replicated, on_tick};
 use crate::state::Replica;
 use msg_wire::{Event, Message, Step, What};
-use quota_table::OutOfMemory;
+use node_rules::Done;
 
 /// The step of an event, written into a step that gives nothing yet. A restart leaves what the stored items give; a
 /// primary's step of any other event ends with its promises.
-pub fn react(replica: &mut Replica, event: &Event, out: &mut Step) -> Result<(), OutOfMemory>
+pub fn react(replica: &mut Replica, event: &Event, out: &mut Step) -> Done
     requires sound { IsReplica replica.old }
     requires valid { IsValidEvent event.now }
     requires empty { out.old ≡ empty_step }
@@ -35,7 +35,7 @@ pub fn react(replica: &mut Replica, event: &Event, out: &mut Step) -> Result<(),
 }
 
 /// The step of a message that comes.
-pub fn deliver(replica: &mut Replica, message: &Message, out: &mut Step) -> Result<(), OutOfMemory>
+pub fn deliver(replica: &mut Replica, message: &Message, out: &mut Step) -> Done
     requires sound { IsReplica replica.old }
     requires valid { IsValidMessage message.now }
     requires empty { out.old ≡ empty_step }
@@ -46,7 +46,7 @@ pub fn deliver(replica: &mut Replica, message: &Message, out: &mut Step) -> Resu
 }
 
 /// The step of a tick.
-fn tick(replica: &mut Replica, out: &mut Step) -> Result<(), OutOfMemory>
+fn tick(replica: &mut Replica, out: &mut Step) -> Done
     requires sound { IsReplica replica.old }
     requires empty { out.old ≡ empty_step }
     ensures { OnOk result (turn_of replica.new out.new ≡ replica_step replica.old events.Tick) }
@@ -57,7 +57,7 @@ fn tick(replica: &mut Replica, out: &mut Step) -> Result<(), OutOfMemory>
 
 /// A message that is heeded.
 #[tactic(auto, using(node_rules::proofs::Limits::number_limit))]
-pub fn hear(replica: &mut Replica, message: &Message, out: &mut Step) -> Result<(), OutOfMemory>
+pub fn hear(replica: &mut Replica, message: &Message, out: &mut Step) -> Done
     requires { IsValidMessage message.now }
     ensures { OnOk result (turn_of replica.new out.new ≡ hear message.now.from message.now.what (turn_of replica.old out.old)) }
 {
