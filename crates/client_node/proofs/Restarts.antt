@@ -8,13 +8,13 @@ use Rattle.node_rules.specs.Names.{NodeId, Config, Item, Event}
 use Rattle.node_rules.specs.Names.items
 use Rattle.node_rules.specs.Nodes.{Node, knowing, with_own}
 use Rattle.node_rules.specs.Turns.{Turn}
+use Rattle.node_rules.specs.Lives.{Life, life_of}
 use Rattle.node_rules.proofs.Kept.{told_valid}
 use Rattle.node_rules.proofs.Places.{Sites}
 use Rattle.node_rules.proofs.Telling.{with_base}
 use Rattle.client_node.specs.States.{ClientState}
 use Rattle.client_node.specs.Steps.{client_step}
 use Rattle.client_node.specs.Restart.{fit, reset_of, fresh_node, restart_of}
-use Rattle.client_node.specs.Laws.{client_life}
 use Rattle.client_node.proofs.Places.{Stores, submits, counts, moves, client_places}
 use Rattle.client_node.proofs.Walk.{client_walk}
 
@@ -50,6 +50,9 @@ step_leads n event valid =
     client_walk (Leads n) n event sites
 
 -- ---- lives
+
+abbrev client_life : Config → NodeId → List Event → Life ClientState
+client_life cfg me = life_of client_step (fresh_node cfg me)
 
 pub restart-items : (cfg : Config) (me : NodeId) (events : List Event) → AllByRecursion IsValidEvent events
     → reset_of (client_life cfg me events).node ≡ restart_of cfg me (client_life cfg me events).stored

@@ -10,6 +10,7 @@ use Rattle.node_rules.specs.Names.events
 use Rattle.node_rules.specs.Bases.{agreed_by}
 use Rattle.node_rules.specs.Nodes.{Node, with_own}
 use Rattle.node_rules.specs.Turns.{turn_of}
+use Rattle.node_rules.specs.Lives.{life_of}
 use Rattle.node_rules.proofs.Lists.{all_push, all_at}
 use Rattle.node_rules.proofs.Kept.{told_valid, Keeping, IsKept, Keeps, keeping, lives, kept_valid}
 use Rattle.node_rules.proofs.Limits.{agreed_sound, base_fresh, base_reset}
@@ -17,7 +18,7 @@ use Rattle.client_node.specs.States.{ClientState}
 use Rattle.client_node.specs.Sound.{IsClient}
 use Rattle.client_node.specs.Steps.{client_step}
 use Rattle.client_node.specs.Restart.{fit, fresh_node}
-use Rattle.client_node.specs.Laws.{client_life, StepsAreValid}
+use Rattle.client_node.specs.Laws.{StepsAreValid}
 use Rattle.client_node.proofs.Homes.{home-small, spot-small}
 use Rattle.client_node.proofs.Places.{Says, Stores, sends_body, asks_fate, submits, counts, moves, client_places}
 use Rattle.client_node.proofs.Walk.{client_walk}
@@ -97,4 +98,4 @@ fresh_sound cfg me valid here = record {
 pub steps_are_valid : StepsAreValid
 steps_are_valid cfg me events event valid here each next =
     let life = lives client_keeping client_step (fresh_node cfg me) events step_sound (fresh_sound cfg me valid here) tt each in
-    kept_valid client_keeping _ _ (step_sound (client_life cfg me events).node event life.is next)
+    kept_valid client_keeping _ _ (step_sound (life_of client_step (fresh_node cfg me) events).node event life.is next)

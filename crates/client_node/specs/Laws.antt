@@ -1,27 +1,12 @@
--- What holds of every life of a node.
-use Rattle.std.specs.Prelude.{◌≡◌, List}
-use Rattle.std.specs.List.{AllByRecursion}
-use Rattle.msg_wire.specs.Valid.{IsValidConfig, IsNodeOf, IsValidEvent}
-use Rattle.msg_wire.specs.Steps.{IsValidStep}
-use Rattle.node_rules.specs.Names.{NodeId, Config, Event}
-use Rattle.node_rules.specs.Turns.{step_of}
-use Rattle.node_rules.specs.Lives.{Life, life_of}
-use Rattle.client_node.specs.States.{ClientState}
+-- What holds of every life of a client.
+use Rattle.node_rules.specs.Lives as lives
 use Rattle.client_node.specs.Steps.{client_step}
 use Rattle.client_node.specs.Restart.{fresh_node, reset_of, restart_of}
 
-abbrev pub client_life : Config → NodeId → List Event → Life ClientState
-client_life cfg me = life_of client_step (fresh_node cfg me)
-
 -- a restart in place leaves what the stored items alone give
 abbrev pub RestartIsTheItems : Type 0
-RestartIsTheItems =
-    (cfg : Config) (me : NodeId) (events : List Event) → IsValidConfig cfg → IsNodeOf cfg me → AllByRecursion IsValidEvent events →
-    reset_of (client_life cfg me events).node ≡ restart_of cfg me (client_life cfg me events).stored
+RestartIsTheItems = lives.RestartIsTheItems client_step fresh_node reset_of restart_of
 
 -- what a step stores and sends is valid
 abbrev pub StepsAreValid : Type 0
-StepsAreValid =
-    (cfg : Config) (me : NodeId) (events : List Event) (event : Event) → IsValidConfig cfg → IsNodeOf cfg me → AllByRecursion IsValidEvent events
-    → IsValidEvent event
-    → IsValidStep (step_of (client_step (client_life cfg me events).node event))
+StepsAreValid = lives.StepsAreValid client_step fresh_node

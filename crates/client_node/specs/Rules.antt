@@ -6,21 +6,20 @@ use Rattle.fix_ante.specs.declared.spots.Spot.{Spot}
 use Rattle.cut_core.specs.Agreements.{Agreement}
 use Rattle.msg_wire.specs.Nodes.{number_of}
 use Rattle.node_rules.specs.Names.{NodeId, Entry}
-use Rattle.node_rules.specs.Names.nodes
-use Rattle.node_rules.specs.Names.sides
 use Rattle.node_rules.specs.Names.items
 use Rattle.node_rules.specs.Names.marks
 use Rattle.node_rules.specs.Names.whats
+use Rattle.node_rules.specs.Acting.{acting}
 use Rattle.node_rules.specs.Turns.{Turn, me_of, own_of, agreed, put_own, store, send, send_all, show}
 use Rattle.node_rules.specs.Rules.{tick}
 use Rattle.client_node.specs.States.{ClientState, count_submitted, home_replicas, is_home_gone, reach, is_in_reach, numbers_in_reach}
 
 -- ---- what a client sends
 
--- the body of a number to the home's primary, where it was submitted
+-- the body of a number to the home's acting replica, where it was submitted
 abbrev pub append : Turn ClientState → ℕ → Turn ClientState
 append t number =
-    option_map_or (λ body. send (nodes.Shard (own_of t).home sides.Primary) (whats.Append (own_of t).first number body) t)
+    option_map_or (λ body. send (acting (agreed t) (own_of t).home) (whats.Append (own_of t).first number body) t)
     (slice_get (own_of t).bodies number) t
 
 -- each submitted body in reach

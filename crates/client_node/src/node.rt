@@ -5,7 +5,7 @@ use crate::rules::on_learned;
 use crate::state::{Client, ClientOwn};
 use crate::steps::{deliver, hear, react};
 use msg_wire::{Config, Event, Item, Message, Step};
-use node_rules::{Hears, Kind, Learns, Living};
+use node_rules::{Done, Hears, Kind, Learns, Living};
 use quota_table::{Entry, OutOfMemory};
 use spec_base::NodeId;
 use std::alloc::Global;
@@ -20,7 +20,7 @@ impl Learns for ClientOwn {
 
     ghost on_learned = { rules.on_learned };
 
-    fn learn(client: &mut Client, entry: &Entry, out: &mut Step) -> Result<(), OutOfMemory> {
+    fn learn(client: &mut Client, entry: &Entry, out: &mut Step) -> Done {
         let _effect = client.learn(entry, out)?;
         on_learned(client, out)
     }
@@ -33,7 +33,7 @@ impl Hears for ClientOwn {
 
     ghost is_under_way = { λ _. Unit {0} };
 
-    fn hear(client: &mut Client, message: &Message, out: &mut Step) -> Result<(), OutOfMemory> {
+    fn hear(client: &mut Client, message: &Message, out: &mut Step) -> Done {
         hear(client, message.from, &message.what, out)
     }
 }
@@ -63,28 +63,18 @@ impl Kind for ClientOwn {
         Ok(client)
     }
 
-    fn fit(client: &mut Client, item: &Item) -> Result<(), OutOfMemory> {
+    fn fit(client: &mut Client, item: &Item) -> Done {
         fit(client, item)
     }
 
     fn settle(_client: &mut Client) {}
 
-    fn deliver(
-        client: &mut Client,
-        _alloc: Global,
-        message: &Message,
-        out: &mut Step,
-    ) -> Result<(), OutOfMemory> {
+    fn deliver(client: &mut Client, _alloc: Global, message: &Message, out: &mut Step) -> Done {
         deliver(client, message, out)?;
         Ok(())
     }
 
-    fn react(
-        client: &mut Client,
-        _alloc: Global,
-        event: &Event,
-        out: &mut Step,
-    ) -> Result<(), OutOfMemory> {
+    fn react(client: &mut Client, _alloc: Global, event: &Event, out: &mut Step) -> Done {
         react(client, event, out)?;
         Ok(())
     }

@@ -7,7 +7,7 @@ ghost use Rattle.client_node.specs.Restart.{fresh_node, fit, fit_body, fit_ack, 
 
 use crate::state::{Client, ClientOwn, MOST_NUMBERS};
 use msg_wire::{Config, Item, Items, number_of};
-use node_rules::{Node, NodeBase};
+use node_rules::{Done, Node, NodeBase};
 use quota_table::OutOfMemory;
 use record_codec::Body;
 use spec_base::NodeId;
@@ -35,7 +35,7 @@ pub(crate) fn reset(client: &mut Client)
 }
 
 /// Takes one more item, where it fits.
-pub(crate) fn fit(client: &mut Client, item: &Item) -> Result<(), OutOfMemory>
+pub(crate) fn fit(client: &mut Client, item: &Item) -> Done
     requires { IsValidItem item.now }
     ensures { OnOk result (client.new ≡ fit client.old item.now) }
 {
@@ -54,7 +54,7 @@ pub(crate) fn fit(client: &mut Client, item: &Item) -> Result<(), OutOfMemory>
     }
 }
 
-fn fit_body(client: &mut Client, body: &Body) -> Result<(), OutOfMemory>
+fn fit_body(client: &mut Client, body: &Body) -> Done
     ensures { OnOk result (client.new ≡ fit_body body.now client.old) }
 {
     if client.own.count() < MOST_NUMBERS {

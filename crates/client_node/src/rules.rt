@@ -14,12 +14,12 @@ use crate::sends::{append, append_all, ask_fate, is_home_gone, reach};
 use crate::state::{Client, MOST_NUMBERS};
 use fix_ante::Spot;
 use msg_wire::{Item, Mark, Step, What, number_of};
-use quota_table::{Entry, OutOfMemory};
+use node_rules::Done;
 use record_codec::Body;
 use spec_base::NodeId;
 
 /// A body is submitted: it is stored, and sent at once where its number is in reach, while the home is there.
-pub(crate) fn submit(client: &mut Client, body: &Body, out: &mut Step) -> Result<(), OutOfMemory>
+pub(crate) fn submit(client: &mut Client, body: &Body, out: &mut Step) -> Done
     ensures { OnOk result (turn_of client.new out.new ≡ submit body.now (turn_of client.old out.old)) }
 {
     let number = client.own.count();
@@ -37,7 +37,7 @@ pub(crate) fn submit(client: &mut Client, body: &Body, out: &mut Step) -> Result
 }
 
 /// Sends the body of a number in reach, while the home is there.
-fn append_new(client: &Client, number: u64, out: &mut Step) -> Result<(), OutOfMemory>
+fn append_new(client: &Client, number: u64, out: &mut Step) -> Done
     ensures { OnOk result (turn_of client.now out.new ≡ append_new number (turn_of client.now out.old)) }
 {
     let acked = client.own.acked();
@@ -49,7 +49,7 @@ fn append_new(client: &Client, number: u64, out: &mut Step) -> Result<(), OutOfM
 }
 
 /// After each learned entry while the home is gone, the fate of the records is asked for.
-pub(crate) fn on_learned(client: &Client, out: &mut Step) -> Result<(), OutOfMemory>
+pub(crate) fn on_learned(client: &Client, out: &mut Step) -> Done
     ensures { OnOk result (turn_of client.now out.new ≡ (if is_home_gone (turn_of client.now out.old) then ask_fate (turn_of client.now out.old) else turn_of client.now out.old)) }
 {
     if is_home_gone(client) {
@@ -60,12 +60,7 @@ pub(crate) fn on_learned(client: &Client, out: &mut Step) -> Result<(), OutOfMem
 }
 
 /// A record is covered: it is acknowledged where its number is the least without an acknowledgement.
-pub(crate) fn hear_ack(
-    client: &mut Client,
-    number: u64,
-    position: u64,
-    out: &mut Step,
-) -> Result<(), OutOfMemory>
+pub(crate) fn hear_ack(client: &mut Client, number: u64, position: u64, out: &mut Step) -> Done
     ensures { OnOk result (turn_of client.new out.new ≡ hear_ack number position (turn_of client.old out.old)) }
 {
     if number != client.own.acked() || number >= MOST_NUMBERS {
@@ -78,7 +73,7 @@ pub(crate) fn hear_ack(
 }
 
 /// After an acknowledged number the one that comes into reach is sent, or the fate of the rest asked for.
-fn go_on(client: &Client, number: u64, out: &mut Step) -> Result<(), OutOfMemory>
+fn go_on(client: &Client, number: u64, out: &mut Step) -> Done
     requires { number < 2 ^ 48 }
     ensures { OnOk result (turn_of client.now out.new ≡ go_on number (turn_of client.now out.old)) }
 {
@@ -91,12 +86,7 @@ fn go_on(client: &Client, number: u64, out: &mut Step) -> Result<(), OutOfMemory
 
 /// A replica of the home tells the client's next number: the client moves, where its home is gone and all numbers
 /// below that one are acknowledged.
-pub(crate) fn hear_fate(
-    client: &mut Client,
-    from: NodeId,
-    next: u64,
-    out: &mut Step,
-) -> Result<(), OutOfMemory>
+pub(crate) fn hear_fate(client: &mut Client, from: NodeId, next: u64, out: &mut Step) -> Done
     ensures { OnOk result (turn_of client.new out.new ≡ hear_fate from next (turn_of client.old out.old)) }
 {
     if number_of(from) != client.own.home() || !is_home_gone(client) || next != client.own.acked() {
@@ -119,7 +109,7 @@ fn row_for(client: &Client) -> Option<Spot>
 }
 
 /// The client moves: the new home is stored, and each submitted body in reach is sent there.
-fn move_to(client: &mut Client, first: u64, row: Spot, out: &mut Step) -> Result<(), OutOfMemory>
+fn move_to(client: &mut Client, first: u64, row: Spot, out: &mut Step) -> Done
     requires first { first ≤ 2 ^ 48 }
     requires shard { row.shard ≤ 5 }
     ensures { OnOk result (turn_of client.new out.new ≡ move_to first row (turn_of client.old out.old)) }
@@ -137,14 +127,14 @@ fn move_to(client: &mut Client, first: u64, row: Spot, out: &mut Step) -> Result
 
 /// Time passes: the next entry is asked for, and the fate of the records where the home is gone, else what is in reach
 /// is sent once more.
-pub(crate) fn on_tick(client: &mut Client, out: &mut Step) -> Result<(), OutOfMemory>
+pub(crate) fn on_tick(client: &mut Client, out: &mut Step) -> Done
     ensures { OnOk result (turn_of client.new out.new ≡ on_tick (turn_of client.old out.old)) }
 {
     client.tick(out)?;
     send_again(client, out)
 }
 
-fn send_again(client: &Client, out: &mut Step) -> Result<(), OutOfMemory>
+fn send_again(client: &Client, out: &mut Step) -> Done
     ensures { OnOk result (turn_of client.now out.new ≡ send_again (turn_of client.now out.old)) }
 {
     if is_home_gone(client) {

@@ -7,7 +7,7 @@ ghost use Rattle.client_node.specs.Rules.{append, append_all, ask_fate};
 
 use crate::state::Client;
 use msg_wire::{Step, What};
-use quota_table::OutOfMemory;
+use node_rules::Done;
 use spec_base::{NodeId, Side};
 
 /// How many numbers from the acknowledged count on a client sends.
@@ -30,7 +30,7 @@ pub(crate) fn is_home_gone(client: &Client) -> bool
 }
 
 /// Sends the body of a number to the home's primary, where it was submitted.
-pub(crate) fn append(client: &Client, number: u64, out: &mut Step) -> Result<(), OutOfMemory>
+pub(crate) fn append(client: &Client, number: u64, out: &mut Step) -> Done
     ensures { OnOk result (turn_of client.now out.new ≡ append (turn_of client.now out.old) number) }
 {
     let Some(body) = client.own.body(number) else {
@@ -45,7 +45,7 @@ pub(crate) fn append(client: &Client, number: u64, out: &mut Step) -> Result<(),
 }
 
 /// Sends each submitted body in reach.
-pub(crate) fn append_all(client: &Client, out: &mut Step) -> Result<(), OutOfMemory>
+pub(crate) fn append_all(client: &Client, out: &mut Step) -> Done
     ensures { OnOk result (turn_of client.now out.new ≡ append_all (turn_of client.now out.old)) }
 {
     let acked = client.own.acked();
@@ -56,7 +56,7 @@ pub(crate) fn append_all(client: &Client, out: &mut Step) -> Result<(), OutOfMem
 }
 
 /// Asks both replicas of a home that is gone what became of the records.
-pub(crate) fn ask_fate(client: &Client, out: &mut Step) -> Result<(), OutOfMemory>
+pub(crate) fn ask_fate(client: &Client, out: &mut Step) -> Done
     ensures { OnOk result (turn_of client.now out.new ≡ ask_fate (turn_of client.now out.old)) }
 {
     let what = What::AskFate {

@@ -13,11 +13,11 @@ use crate::restart::reset;
 use crate::rules::{hear_ack, hear_fate, on_learned, on_tick, submit};
 use crate::state::Client;
 use msg_wire::{Event, Message, Step, What};
-use quota_table::{Entry, OutOfMemory};
+use node_rules::Done;
 use spec_base::NodeId;
 
 /// The step of an event, written into a step that gives nothing yet.
-pub(crate) fn react(client: &mut Client, event: &Event, out: &mut Step) -> Result<(), OutOfMemory>
+pub(crate) fn react(client: &mut Client, event: &Event, out: &mut Step) -> Done
     requires valid { IsValidEvent event.now }
     requires empty { out.old ≡ empty_step }
     ensures { OnOk result (turn_of client.new out.new ≡ client_step client.old event.now) }
@@ -35,11 +35,7 @@ pub(crate) fn react(client: &mut Client, event: &Event, out: &mut Step) -> Resul
 }
 
 /// The step of a message that comes. One that is not heeded does nothing.
-pub(crate) fn deliver(
-    client: &mut Client,
-    message: &Message,
-    out: &mut Step,
-) -> Result<(), OutOfMemory>
+pub(crate) fn deliver(client: &mut Client, message: &Message, out: &mut Step) -> Done
     requires valid { IsValidMessage message.now }
     requires empty { out.old ≡ empty_step }
     ensures { OnOk result (turn_of client.new out.new ≡ client_step client.old (events.Deliver message.now)) }
@@ -52,12 +48,7 @@ pub(crate) fn deliver(
 }
 
 /// A message that is heeded; the other kinds go to other nodes.
-pub(crate) fn hear(
-    client: &mut Client,
-    from: NodeId,
-    what: &What,
-    out: &mut Step,
-) -> Result<(), OutOfMemory>
+pub(crate) fn hear(client: &mut Client, from: NodeId, what: &What, out: &mut Step) -> Done
     requires { IsValidWhat what.now }
     ensures { OnOk result (turn_of client.new out.new ≡ hear from what.now (turn_of client.old out.old)) }
 {
