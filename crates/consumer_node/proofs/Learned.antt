@@ -80,14 +80,8 @@ own_cut P a s n stays is = record {
 -- or all are
 pub own_uncut : {A : Type 0} (P : ℕ → Type 0) (a : Agreement) (s : ConsumerState A) → ((i : ℕ) → i < length s.pending → P (s.confirmed + i)) → IsLearned P a s
     → IsLearned Any a s
-own_uncut P a s stays is = record {
-  shards = is.shards;
-  lanes = is.lanes;
-  confirmed = is.confirmed;
-  floors = is.floors;
-  ends = is.ends;
-  applied = λ i below _. is.applied i below (stays i below);
-}
+own_uncut P a s stays is =
+    record { shards = is.shards; lanes = is.lanes; confirmed = is.confirmed; floors = is.floors; ends = is.ends; applied = λ i below _. is.applied i below (stays i below) }
 
 -- ---- the gone shards are closed
 

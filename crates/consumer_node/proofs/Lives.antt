@@ -64,7 +64,7 @@ module _ {A : Type 0} (app : Meaning A) where
       record { stable = kept.given.stable (fit_later app (app.fresh cfg.app) node.own.base life.reached fit); sends = kept.given.sends }
 
   pub steps_are_valid : StepsAreValid app
-  steps_are_valid cfg me events event outputs valid here each next = reached_steps_are_valid cfg me events event (λ state rec reached written. outputs state rec) valid here each next
+  steps_are_valid outputs cfg me events event valid here each next = reached_steps_are_valid cfg me events event (λ state rec reached written. outputs state rec) valid here each next
 
 -- ---- what an event by itself stores
 

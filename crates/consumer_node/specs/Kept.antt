@@ -1,7 +1,8 @@
 -- What ties what a consumer keeps to what contracts see of it.
-use Rattle.std.specs.Prelude.{◌≡◌, ℕ, ◌+◌, ◌≤◌, ◌^◌, List, [], ◌∷◌, length}
+use Rattle.std.specs.Prelude.{◌≡◌, ℕ, ◌+◌, ◌<◌, ◌≤◌, ◌^◌, List, [], ◌∷◌, length}
 use Rattle.std.specs.List.{AllByRecursion}
 use Rattle.app_law.specs.Folds.{fold_of}
+use Rattle.app_law.specs.Positions.{IsPast}
 use Rattle.undo_points.specs.Points.{Points, point_position, taken_back, Gave}
 use Rattle.output_gate.specs.declared.kept.KeptOut.{KeptOut}
 use Rattle.output_gate.specs.Gates.{Gate, out_position}
@@ -33,6 +34,13 @@ pub record IsKeptFrom {A U : Type 0} (next : A → Record → A) (output : A →
   pub output_room : gate.room ≡ 3840
   pub few : length pending ≤ 3840
   pub most : confirmed ≤ 2 ^ 48
+
+-- there is room for what takes one more record back, and for its output, past all that are held
+pub record HasRoom {U : Type 0} (undos : Points U) (gate : Gate) (position : ℕ) : Type 0 where
+  pub undo : length undos.held < undos.room
+  pub undo_past : IsPast point_position undos.held position
+  pub gives : length gate.held < gate.room
+  pub gives_past : IsPast out_position gate.held position
 
 -- the state after the confirmed records is the application's, taken back by all undos
 abbrev pub IsKept : {A U : Type 0} → (A → Record → A) → (A → Record → List ℕ) → (U → A → A) → Points U → Gate → A → List Record → ℕ → Type 0

@@ -1,11 +1,8 @@
 -- What holds of every life of a consumer, over any application.
-use Rattle.std.specs.Prelude.{◌≡◌, ◌≤◌, List, length}
-use Rattle.std.specs.List.{AllByRecursion}
-use Rattle.msg_wire.specs.Valid.{IsValidConfig, IsNodeOf, IsValidEvent}
-use Rattle.msg_wire.specs.Steps.{IsValidStep}
+use Rattle.std.specs.Prelude.{◌≤◌, List, length}
 use Rattle.node_rules.specs.Names.{NodeId, Config, Record, Event}
-use Rattle.node_rules.specs.Turns.{step_of}
 use Rattle.node_rules.specs.Lives.{Life, life_of}
+use Rattle.node_rules.specs.Lives as lives
 use Rattle.consumer_node.specs.Apps.{Meaning, any_meaning}
 use Rattle.consumer_node.specs.States.{ConsumerState}
 use Rattle.consumer_node.specs.Steps.{consumer_step}
@@ -16,9 +13,7 @@ consumer_life app cfg me = life_of (consumer_step app) (fresh_node app cfg me)
 
 -- a restart in place leaves what the stored items alone give
 abbrev pub RestartIsTheItems : {A : Type 0} → Meaning A → Type 0
-RestartIsTheItems app =
-    (cfg : Config) (me : NodeId) (events : List Event) → IsValidConfig cfg → IsNodeOf cfg me → AllByRecursion IsValidEvent events →
-    reset_of (consumer_life app cfg me events).node ≡ restart_of app cfg me (consumer_life app cfg me events).stored
+RestartIsTheItems app = lives.RestartIsTheItems (consumer_step app) (fresh_node app) reset_of (restart_of app)
 
 -- what an application writes for a record has at most 64 bytes
 abbrev pub OutputsFit : {A : Type 0} → Meaning A → Type 0
@@ -26,14 +21,8 @@ OutputsFit {A} app = (state : A) (rec : Record) → length (app.output state rec
 
 -- what a step stores and sends is valid
 abbrev pub StepsAreValid : {A : Type 0} → Meaning A → Type 0
-StepsAreValid app =
-    (cfg : Config) (me : NodeId) (events : List Event) (event : Event) → OutputsFit app → IsValidConfig cfg → IsNodeOf cfg me
-    → AllByRecursion IsValidEvent events → IsValidEvent event
-    → IsValidStep (step_of (consumer_step app (consumer_life app cfg me events).node event))
+StepsAreValid app = OutputsFit app → lives.StepsAreValid (consumer_step app) (fresh_node app)
 
 -- so of the application of any kind, after whatever records
 abbrev pub AnyStepsAreValid : Type 0
-AnyStepsAreValid =
-    (cfg : Config) (me : NodeId) (events : List Event) (event : Event) → IsValidConfig cfg → IsNodeOf cfg me → AllByRecursion IsValidEvent events
-    → IsValidEvent event
-    → IsValidStep (step_of (consumer_step any_meaning (consumer_life any_meaning cfg me events).node event))
+AnyStepsAreValid = lives.StepsAreValid (consumer_step any_meaning) (fresh_node any_meaning)

@@ -9,7 +9,7 @@ use crate::state::{Consumer, ConsumerOwn};
 use crate::steps::{deliver, hear, react};
 use app_law::App;
 use msg_wire::{Config, Event, Item, Message, Step};
-use node_rules::{Hears, Kind, Learns, Living};
+use node_rules::{Done, Hears, Kind, Learns, Living};
 use quota_table::{Entry, OutOfMemory};
 use record_codec::Shown;
 use spec_base::NodeId;
@@ -25,7 +25,7 @@ impl<A: App> Learns for ConsumerOwn<A> {
 
     ghost on_learned = { rules.on_learned };
 
-    fn learn(consumer: &mut Consumer<A>, entry: &Entry, out: &mut Step) -> Result<(), OutOfMemory> {
+    fn learn(consumer: &mut Consumer<A>, entry: &Entry, out: &mut Step) -> Done {
         let effect = consumer.learn(entry, out)?;
         on_learned(consumer, effect, out)
     }
@@ -38,11 +38,7 @@ impl<A: App> Hears for ConsumerOwn<A> {
 
     ghost is_under_way = { λ _. Unit {0} };
 
-    fn hear(
-        consumer: &mut Consumer<A>,
-        message: &Message,
-        out: &mut Step,
-    ) -> Result<(), OutOfMemory> {
+    fn hear(consumer: &mut Consumer<A>, message: &Message, out: &mut Step) -> Done {
         hear(consumer, message.from, &message.what, out)
     }
 }
@@ -74,7 +70,7 @@ impl<A: App> Kind for ConsumerOwn<A> {
         Ok(consumer)
     }
 
-    fn fit(consumer: &mut Consumer<A>, item: &Item) -> Result<(), OutOfMemory> {
+    fn fit(consumer: &mut Consumer<A>, item: &Item) -> Done {
         fit(consumer, item)
     }
 
@@ -87,17 +83,12 @@ impl<A: App> Kind for ConsumerOwn<A> {
         alloc: Global,
         message: &Message,
         out: &mut Step,
-    ) -> Result<(), OutOfMemory> {
+    ) -> Done {
         deliver(consumer, alloc, message, out)?;
         Ok(())
     }
 
-    fn react(
-        consumer: &mut Consumer<A>,
-        alloc: Global,
-        event: &Event,
-        out: &mut Step,
-    ) -> Result<(), OutOfMemory> {
+    fn react(consumer: &mut Consumer<A>, alloc: Global, event: &Event, out: &mut Step) -> Done {
         react(consumer, alloc, event, out)?;
         Ok(())
     }

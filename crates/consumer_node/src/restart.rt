@@ -10,7 +10,7 @@ use crate::speculation::next_covered;
 use crate::state::{Consumer, ConsumerOwn};
 use app_law::App;
 use msg_wire::{Config, Item};
-use node_rules::{Node, NodeBase};
+use node_rules::{Done, Node, NodeBase};
 use quota_table::OutOfMemory;
 use record_codec::Record;
 use spec_base::NodeId;
@@ -48,7 +48,7 @@ pub(crate) fn close<A: App>(consumer: &mut Consumer<A>)
 }
 
 /// Takes one more item, where it fits.
-pub(crate) fn fit<A: App>(consumer: &mut Consumer<A>, item: &Item) -> Result<(), OutOfMemory>
+pub(crate) fn fit<A: App>(consumer: &mut Consumer<A>, item: &Item) -> Done
     requires valid { IsValidItem item.now }
     requires none { consumer.old.own.pending ≡ [] }
     ensures fits { OnOk result (consumer.new ≡ fit (meaning A.fresh_state A.next_state A.output_of) consumer.old item.now) }

@@ -13,7 +13,7 @@ use app_law::App;
 use cut_core::Effect;
 use fix_ante::Owner;
 use msg_wire::{Mark, Step, What};
-use quota_table::OutOfMemory;
+use node_rules::Done;
 
 /// How many shards there can be.
 const MOST_SHARDS: u8 = 6;
@@ -22,11 +22,7 @@ const MOST_SHARDS: u8 = 6;
 const MOST_FETCHED: u64 = 8;
 
 /// What follows of an entry that is learned now: a removal is noticed, and shards that are gone end.
-pub(crate) fn on_learned<A: App>(
-    consumer: &mut Consumer<A>,
-    effect: Effect,
-    out: &mut Step,
-) -> Result<(), OutOfMemory>
+pub(crate) fn on_learned<A: App>(consumer: &mut Consumer<A>, effect: Effect, out: &mut Step) -> Done
     ensures { OnOk result (turn_of consumer.new out.new ≡ close_all (notice effect (turn_of consumer.old out.old))) }
 {
     notice(consumer, effect, out)?;
@@ -35,11 +31,7 @@ pub(crate) fn on_learned<A: App>(
 }
 
 /// Notices a removal, and undoes what was applied from its first failed position on.
-fn notice<A: App>(
-    consumer: &mut Consumer<A>,
-    effect: Effect,
-    out: &mut Step,
-) -> Result<(), OutOfMemory>
+fn notice<A: App>(consumer: &mut Consumer<A>, effect: Effect, out: &mut Step) -> Done
     ensures { OnOk result (turn_of consumer.new out.new ≡ notice effect (turn_of consumer.old out.old)) }
 {
     if let Effect::Removed { first, .. } = effect {
@@ -50,7 +42,7 @@ fn notice<A: App>(
 }
 
 /// Takes back what was applied from a position on, where anything was.
-fn undo<A: App>(consumer: &mut Consumer<A>, first: u64, out: &mut Step) -> Result<(), OutOfMemory>
+fn undo<A: App>(consumer: &mut Consumer<A>, first: u64, out: &mut Step) -> Done
     ensures { OnOk result (turn_of consumer.new out.new ≡ undo first (turn_of consumer.old out.old)) }
 {
     if first >= consumer.own.applied() {
@@ -82,7 +74,7 @@ fn close<A: App>(consumer: &mut Consumer<A>, shard: u8)
 }
 
 /// A tick: it asks for the next entry, and for the records of the next positions.
-pub(crate) fn on_tick<A: App>(consumer: &mut Consumer<A>, out: &mut Step) -> Result<(), OutOfMemory>
+pub(crate) fn on_tick<A: App>(consumer: &mut Consumer<A>, out: &mut Step) -> Done
     ensures { OnOk result (turn_of consumer.new out.new ≡ on_tick (turn_of consumer.old out.old)) }
 {
     consumer.tick(out)?;
@@ -90,7 +82,7 @@ pub(crate) fn on_tick<A: App>(consumer: &mut Consumer<A>, out: &mut Step) -> Res
 }
 
 /// Asks for the records of the positions from the applied ones on.
-fn fetch_some<A: App>(consumer: &Consumer<A>, out: &mut Step) -> Result<(), OutOfMemory>
+fn fetch_some<A: App>(consumer: &Consumer<A>, out: &mut Step) -> Done
     ensures { OnOk result (turn_of consumer.now out.new ≡ fetch_some (turn_of consumer.now out.old)) }
 {
     let applied = consumer.own.applied();
@@ -101,11 +93,7 @@ fn fetch_some<A: App>(consumer: &Consumer<A>, out: &mut Step) -> Result<(), OutO
 }
 
 /// Asks for the record of a position that has an owner.
-fn fetch_at<A: App>(
-    consumer: &Consumer<A>,
-    position: u64,
-    out: &mut Step,
-) -> Result<(), OutOfMemory>
+fn fetch_at<A: App>(consumer: &Consumer<A>, position: u64, out: &mut Step) -> Done
     ensures { OnOk result (turn_of consumer.now out.new ≡ fetch_at (turn_of consumer.now out.old) position) }
 {
     match consumer.base.known().owner(position) {
@@ -115,7 +103,7 @@ fn fetch_at<A: App>(
 }
 
 /// Asks both replicas of an owner's shard for a record that is wanted.
-fn fetch<A: App>(consumer: &Consumer<A>, owner: Owner, out: &mut Step) -> Result<(), OutOfMemory>
+fn fetch<A: App>(consumer: &Consumer<A>, owner: Owner, out: &mut Step) -> Done
     requires { owner.shard ≤ 5 }
     ensures { OnOk result (turn_of consumer.now out.new ≡ fetch owner (turn_of consumer.now out.old)) }
 {

@@ -18,17 +18,14 @@ use crate::state::Consumer;
 use app_law::App;
 use fix_ante::Owner;
 use msg_wire::{Item, Mark, Step};
+use node_rules::Done;
 use output_gate::MOST_KEPT;
 use quota_table::{Bytes, OutOfMemory};
 use record_codec::{Output, Record};
 use std::alloc::Global;
 
 /// Applies what is held in order, then confirms what is covered, up to three records.
-pub(crate) fn finish<A: App>(
-    consumer: &mut Consumer<A>,
-    alloc: Global,
-    out: &mut Step,
-) -> Result<(), OutOfMemory>
+pub(crate) fn finish<A: App>(consumer: &mut Consumer<A>, alloc: Global, out: &mut Step) -> Done
     requires sound { IsConsumer consumer.old }
     ensures turn { OnOk result (turn_of consumer.new out.new ≡ finish (meaning A.fresh_state A.next_state A.output_of) (turn_of consumer.old out.old)) }
     ensures valid { AreValidItems out.old.stable → OnOk result (AreValidItems out.new.stable) }
@@ -39,7 +36,7 @@ pub(crate) fn finish<A: App>(
 }
 
 /// Applies the records of the next positions, up to the first that is not held.
-fn apply_all<A: App>(consumer: &mut Consumer<A>, out: &mut Step) -> Result<(), OutOfMemory>
+fn apply_all<A: App>(consumer: &mut Consumer<A>, out: &mut Step) -> Done
     requires sound { IsConsumer consumer.old }
     ensures turn { OnOk result (turn_of consumer.new out.new ≡ apply_all (turn_of consumer.old out.old)) }
     ensures sound { OnOk result (IsConsumer consumer.new) }
@@ -64,7 +61,7 @@ fn next_held<A: App>(consumer: &Consumer<A>) -> Result<Option<Record>, OutOfMemo
 }
 
 /// Applies a record.
-fn apply<A: App>(consumer: &mut Consumer<A>, rec: Record, out: &mut Step) -> Result<(), OutOfMemory>
+fn apply<A: App>(consumer: &mut Consumer<A>, rec: Record, out: &mut Step) -> Done
     requires room { length consumer.old.own.pending < 3840 }
     ensures { OnOk result (turn_of consumer.new out.new ≡ apply (turn_of consumer.old out.old) rec) }
 {
@@ -81,11 +78,7 @@ fn apply<A: App>(consumer: &mut Consumer<A>, rec: Record, out: &mut Step) -> Res
 }
 
 /// Confirms up to three of the applied records that are covered and not confirmed yet.
-fn confirm_some<A: App>(
-    consumer: &mut Consumer<A>,
-    alloc: Global,
-    out: &mut Step,
-) -> Result<(), OutOfMemory>
+fn confirm_some<A: App>(consumer: &mut Consumer<A>, alloc: Global, out: &mut Step) -> Done
     requires sound { IsConsumer consumer.old }
     ensures turn { OnOk result (turn_of consumer.new out.new ≡ confirm_some (meaning A.fresh_state A.next_state A.output_of) (turn_of consumer.old out.old)) }
     ensures valid { AreValidItems out.old.stable → OnOk result (AreValidItems out.new.stable) }
@@ -123,11 +116,7 @@ pub(crate) fn next_covered<A: App>(consumer: &Consumer<A>) -> Option<Owner>
 }
 
 /// Confirms the next position, where it is covered and its record is applied: it is stored with its output, and shown.
-fn confirm<A: App>(
-    consumer: &mut Consumer<A>,
-    alloc: Global,
-    out: &mut Step,
-) -> Result<(), OutOfMemory>
+fn confirm<A: App>(consumer: &mut Consumer<A>, alloc: Global, out: &mut Step) -> Done
     requires sound { IsConsumer consumer.old }
     ensures turn { OnOk result (turn_of consumer.new out.new ≡ confirm_oldest (meaning A.fresh_state A.next_state A.output_of) (turn_of consumer.old out.old)) }
     ensures valid { AreValidItems out.old.stable → OnOk result (AreValidItems out.new.stable) }
@@ -151,7 +140,7 @@ fn show_confirmed<A: App>(
     rec: Record,
     output: Output,
     out: &mut Step,
-) -> Result<(), OutOfMemory>
+) -> Done
     requires rec { IsValidRecord rec }
     ensures turn { OnOk result (turn_of consumer.now out.new ≡ show_output output (show (ConfirmMark position rec) (store (ConfirmedItem rec output) (turn_of consumer.now out.old)))) }
     ensures valid { AreValidItems out.old.stable → OnOk result (AreValidItems out.new.stable) }
@@ -170,11 +159,7 @@ fn show_confirmed<A: App>(
 }
 
 /// Lets output go out, where there is some.
-fn show_output<A: App>(
-    consumer: &Consumer<A>,
-    bytes: Bytes,
-    out: &mut Step,
-) -> Result<(), OutOfMemory>
+fn show_output<A: App>(consumer: &Consumer<A>, bytes: Bytes, out: &mut Step) -> Done
     ensures { OnOk result (turn_of consumer.now out.new ≡ show_output bytes (turn_of consumer.now out.old)) }
 {
     if bytes.is_empty() {

@@ -3,11 +3,13 @@ ghost use Rattle.std.specs.Option.{option_copied};
 ghost use Rattle.spec_delivery.specs.Buffers.{record_at, answer_to, with_record, with_end};
 ghost use Rattle.spec_delivery.specs.Lanes.{is_kept};
 ghost use Rattle.app_law.specs.Positions.{below};
-ghost use Rattle.output_gate.specs.Gates.{out_position, gate_from};
+ghost use Rattle.undo_points.specs.Points.{pushed};
+ghost use Rattle.output_gate.specs.Gates.{out_position, holding, gate_from};
 ghost use Rattle.consumer_node.specs.Apps.{meaning};
 ghost use Rattle.consumer_node.specs.States.{fresh_consumer, applied_of, app_state, with_lanes, with_pending, cut_off};
 ghost use Rattle.consumer_node.specs.Restart.{reset_own};
 ghost use Rattle.consumer_node.specs.Speculation.{with_confirmed};
+ghost use Rattle.consumer_node.specs.Kept.{HasRoom};
 ghost use Rattle.consumer_node.specs.Confirming.{ConfirmsOldest, HasOutput};
 
 use app_law::App;
@@ -142,8 +144,7 @@ impl<A: App> ConsumerOwn<A> {
         self.pending.reserve(1)?;
         let position = self.confirmed + self.pending.len() as u64;
         let (undo, output) = self.app.apply(&rec);
-        self.undos.push(position, undo);
-        self.gate.hold(position, output);
+        keep(&mut self.undos, &mut self.gate, position, undo, output);
         self.pending.push_back_reserved(rec);
         Ok(())
     }
@@ -191,6 +192,22 @@ impl<A: App> ConsumerOwn<A> {
         self.cut_to(self.confirmed);
         self.buffer.clear();
     }
+}
+
+/// Keeps what takes the record of a position back, and its output, until it is confirmed.
+fn keep<U: Drop>(
+    undos: &mut UndoPoints<U>,
+    gate: &mut OutputGate,
+    position: u64,
+    undo: U,
+    output: Output,
+)
+    requires { HasRoom undos.old gate.old position }
+    ensures undos { undos.new ≡ pushed undos.old position undo }
+    ensures gate { gate.new ≡ holding gate.old position output }
+{
+    undos.push(position, undo);
+    gate.hold(position, output);
 }
 
 /// Closes a shard of a buffer, unless it has that end already: then all that it holds is before it.

@@ -15,7 +15,7 @@ use crate::speculation::finish;
 use crate::state::Consumer;
 use app_law::App;
 use msg_wire::{Event, Mark, Message, Step, What, number_of};
-use quota_table::OutOfMemory;
+use node_rules::Done;
 use record_codec::Record;
 use spec_base::NodeId;
 use std::alloc::Global;
@@ -27,7 +27,7 @@ pub(crate) fn react<A: App>(
     alloc: Global,
     event: &Event,
     out: &mut Step,
-) -> Result<(), OutOfMemory>
+) -> Done
     requires sound { IsConsumer consumer.old }
     requires valid { IsValidEvent event.now }
     requires empty { out.old ≡ empty_step }
@@ -48,7 +48,7 @@ pub(crate) fn deliver<A: App>(
     alloc: Global,
     message: &Message,
     out: &mut Step,
-) -> Result<(), OutOfMemory>
+) -> Done
     requires sound { IsConsumer consumer.old }
     requires valid { IsValidMessage message.now }
     requires empty { out.old ≡ empty_step }
@@ -60,11 +60,7 @@ pub(crate) fn deliver<A: App>(
 }
 
 /// The step of a tick.
-fn tick<A: App>(
-    consumer: &mut Consumer<A>,
-    alloc: Global,
-    out: &mut Step,
-) -> Result<(), OutOfMemory>
+fn tick<A: App>(consumer: &mut Consumer<A>, alloc: Global, out: &mut Step) -> Done
     requires sound { IsConsumer consumer.old }
     requires empty { out.old ≡ empty_step }
     ensures turn { OnOk result (turn_of consumer.new out.new ≡ consumer_step (meaning A.fresh_state A.next_state A.output_of) consumer.old events.Tick) }
@@ -75,7 +71,7 @@ fn tick<A: App>(
 }
 
 /// A restart in place: what was applied beyond the confirmed records is undone.
-fn restart<A: App>(consumer: &mut Consumer<A>, out: &mut Step) -> Result<(), OutOfMemory>
+fn restart<A: App>(consumer: &mut Consumer<A>, out: &mut Step) -> Done
     requires { out.old ≡ empty_step }
     ensures { OnOk result (turn_of consumer.new out.new ≡ restart consumer.old) }
 {
@@ -90,7 +86,7 @@ pub(crate) fn hear<A: App>(
     from: NodeId,
     what: &What,
     out: &mut Step,
-) -> Result<(), OutOfMemory>
+) -> Done
     requires number { number_of from ≤ 5 }
     requires what { IsValidWhat what.now }
     ensures { OnOk result (turn_of consumer.new out.new ≡ hear from what.now (turn_of consumer.old out.old)) }

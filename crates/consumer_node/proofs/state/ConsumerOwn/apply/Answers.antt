@@ -3,48 +3,23 @@ use Rattle.consumer_node.specs.States.{with_pending}
 use Rattle.consumer_node.proofs.Keeping.{kept-room, has-applied, state-made}
 use Rattle.consumer_node.proofs.state.ConsumerOwn.apply.Goals as goal
 
-pub push-requires-clause-room : goal.push-requires-clause-room
-push-requires-clause-room g c =
-    let s = c.self.inside in
-    let few = rw (sym c.self.view_is) at c.requires.room in
-    (kept-room g.A.App.next_state g.A.App.output_of g.A.App.restored _ s.undos s.gate s.app s.pending.items s.confirmed c.self.invariant.0 few).undo
-
-pub push-requires-clause-past : goal.push-requires-clause-past
-push-requires-clause-past g c =
+pub keep-requires : goal.keep-requires
+keep-requires g c =
     let s = c.self.inside in
     let few = rw (sym c.self.view_is) at c.requires.room in
     let size : c.len.result ≡ length s.pending.items = omega (arith, c.len.ensures, c.in_ok-reserve.ensures.len, s.pending.ok.0) in
-    rw size ((kept-room g.A.App.next_state g.A.App.output_of g.A.App.restored _ s.undos s.gate s.app s.pending.items s.confirmed c.self.invariant.0 few).undo_past)
-
-pub hold-requires-clause-room : goal.hold-requires-clause-room
-hold-requires-clause-room g c =
-    let s = c.self.inside in
-    let few = rw (sym c.self.view_is) at c.requires.room in
-    (kept-room g.A.App.next_state g.A.App.output_of g.A.App.restored _ s.undos s.gate s.app s.pending.items s.confirmed c.self.invariant.0 few).gives
-
-pub hold-requires-clause-past : goal.hold-requires-clause-past
-hold-requires-clause-past g c =
-    let s = c.self.inside in
-    let few = rw (sym c.self.view_is) at c.requires.room in
-    let size : c.len.result ≡ length s.pending.items = omega (arith, c.len.ensures, c.in_ok-reserve.ensures.len, s.pending.ok.0) in
-    rw size ((kept-room g.A.App.next_state g.A.App.output_of g.A.App.restored _ s.undos s.gate s.app s.pending.items s.confirmed c.self.invariant.0 few).gives_past)
+    rw size (kept-room g.A.App.next_state g.A.App.output_of g.A.App.restored _ s.undos s.gate s.app s.pending.items s.confirmed c.self.invariant.0 few)
 
 pub invariant_of-self-2 : goal.invariant_of-self-2
 invariant_of-self-2 g c =
-    let s = c.self.inside in
-    let few = rw (sym c.self.view_is) at c.requires.room in
-    let size : c.len.result ≡ length s.pending.items = omega (arith, c.len.ensures, c.in_ok-reserve.ensures.len, s.pending.ok.0) in
+    let size : c.len.result ≡ length c.self.inside.pending.items = omega (arith, c.len.ensures, c.in_ok-reserve.ensures.len, c.self.inside.pending.ok.0) in
     let longer = c.push_back_reserved.ensures.items ∙ ap (λ recs. recs ++ c.args.rec ∷ []) c.in_ok-reserve.ensures.items in
-    let made = has-applied g.A.App.next_state g.A.App.output_of g.A.App.restored s.undos c.push.new.self s.gate c.hold.new.self s.app c.apply-undo.new.self s.pending.items c.push_back_reserved.new.self.items s.confirmed (s.confirmed + c.len.result) c.args.rec _ _
-    c.self.invariant.0 few (ap (λ n. s.confirmed + n) size) c.apply-undo.ensures.next c.apply-undo.ensures.undo c.apply-undo.ensures.output c.apply-undo.ensures.short c.push.ensures c.hold.ensures longer in
+    let made = has-applied g.A.App.next_state g.A.App.output_of g.A.App.restored _ _ _ _ _ _ _ _ _ _ _ _ _ c.self.invariant.0 (rw (sym c.self.view_is) at c.requires.room) (ap (λ n. c.self.inside.confirmed + n) size) c.apply-undo.ensures.next c.apply-undo.ensures.undo c.apply-undo.ensures.output c.apply-undo.ensures.short c.keep.ensures.undos c.keep.ensures.gate longer in
     (made.0, c.self.invariant.1)
 
 pub returns-clause-ok : goal.returns-clause-ok
 returns-clause-ok g c =
-    let s = c.self.inside in
-    let few = rw (sym c.self.view_is) at c.requires.room in
-    let size : c.len.result ≡ length s.pending.items = omega (arith, c.len.ensures, c.in_ok-reserve.ensures.len, s.pending.ok.0) in
+    let size : c.len.result ≡ length c.self.inside.pending.items = omega (arith, c.len.ensures, c.in_ok-reserve.ensures.len, c.self.inside.pending.ok.0) in
     let longer = c.push_back_reserved.ensures.items ∙ ap (λ recs. recs ++ c.args.rec ∷ []) c.in_ok-reserve.ensures.items in
-    let made = has-applied g.A.App.next_state g.A.App.output_of g.A.App.restored s.undos c.push.new.self s.gate c.hold.new.self s.app c.apply-undo.new.self s.pending.items c.push_back_reserved.new.self.items s.confirmed (s.confirmed + c.len.result) c.args.rec _ _
-    c.self.invariant.0 few (ap (λ n. s.confirmed + n) size) c.apply-undo.ensures.next c.apply-undo.ensures.undo c.apply-undo.ensures.output c.apply-undo.ensures.short c.push.ensures c.hold.ensures longer in
-    state-made s.buffer s.buffer s.confirmed s.confirmed _ _ _ _ refl refl made.1 longer ∙ ap (λ own. with_pending (own.pending ++ c.args.rec ∷ []) own) c.self.view_is
+    let made = has-applied g.A.App.next_state g.A.App.output_of g.A.App.restored _ _ _ _ _ _ _ _ _ _ _ _ _ c.self.invariant.0 (rw (sym c.self.view_is) at c.requires.room) (ap (λ n. c.self.inside.confirmed + n) size) c.apply-undo.ensures.next c.apply-undo.ensures.undo c.apply-undo.ensures.output c.apply-undo.ensures.short c.keep.ensures.undos c.keep.ensures.gate longer in
+    state-made _ _ _ _ _ _ _ _ refl refl made.1 longer ∙ ap (λ own. with_pending (own.pending ++ c.args.rec ∷ []) own) c.self.view_is
