@@ -12,8 +12,8 @@ use Rattle.script_text.specs.Names.inputs
 use Rattle.script_text.specs.Names.commands
 use Rattle.script_text.specs.Names.kinds
 use Rattle.script_text.specs.Words.{is_printable, words_of, is_word, SpellsDecimal}
-use Rattle.script_text.specs.Spelled.{SpellsNode, SpellsWindow, SpellsInput}
-use Rattle.script_text.specs.Judged.{Judged, from_to, number_in, number_below, node_in, first_of, only_of, both_of, window_of, body_in, submit_of, message_of, deliver_of, lose_of, drain_of, tick_of, restart_of, table_of, remove_of, form_of, body_of, input_in}
+use Rattle.script_text.specs.Spelled.{SpellsWindow, SpellsInput}
+use Rattle.script_text.specs.Judged.{Judged, from_to, number_in, number_below, node_in, first_of, only_of, both_of, window_of, body_in, submit_of, message_of, of_message, drain_of, only_node_of, of_node, table_of, remove_of, form_of, body_of, input_in}
 use Rattle.script_text.proofs.NumberLemmas.{first_of-ok, only_of-ok, both_of-ok, is_word-same, number_in-ok, number_in-back, number_below-ok, number_below-back, from_to-is, from_to-true}
 use Rattle.script_text.proofs.NodeLemmas.{node_in-ok, among-nodes, among-sequencers, node-found, sequencer-found}
 use Rattle.script_text.proofs.RowSpelled.{window_of-ok, window_of-back}
@@ -60,21 +60,25 @@ message_of-ok words n e =
     let w = bind_ok (only_of words) (λ word. number_in (λ _. true) word) n e in
     (w.0, only_of-ok words w.0 w.1, (number_in-ok (λ _. true) w.0 n w.2).0)
 
-deliver_of-ok : (c : Config) (line : List ℕ) (words : List (List ℕ)) (input : Input) → Begins line (codes "deliver") words → deliver_of words ≡ Ok input
-    → Holds c line input
-unfolding deliver_of
-deliver_of-ok c line words input b e =
-    let n = bind_ok (message_of words) (λ number. Ok (inputs.Deliver number)) input e in
+of_message-ok : (make : ℕ → Input) (words : List (List ℕ)) (input : Input) → of_message make words ≡ Ok input
+    → (n : ℕ) × (word : List ℕ) × (words ≡ word ∷ []) × SpellsDecimal word n × (make n ≡ input)
+unfolding of_message
+of_message-ok make words input e =
+    let n = bind_ok (message_of words) (λ number. Ok (make number)) input e in
     let w = message_of-ok words n.0 n.1 in
-    subst (Holds c line) (ok_is ScriptKind (inputs.Deliver n.0) input n.2) ((w.0, after line (codes "deliver") words (w.0 ∷ []) b w.1, w.2), tt)
+    (n.0, w.0, w.1, w.2, ok_is ScriptKind (make n.0) input n.2)
 
-lose_of-ok : (c : Config) (line : List ℕ) (words : List (List ℕ)) (input : Input) → Begins line (codes "lose") words → lose_of words ≡ Ok input
+deliver-ok : (c : Config) (line : List ℕ) (words : List (List ℕ)) (input : Input) → Begins line (codes "deliver") words → of_message inputs.Deliver words ≡ Ok input
     → Holds c line input
-unfolding lose_of
-lose_of-ok c line words input b e =
-    let n = bind_ok (message_of words) (λ number. Ok (inputs.Lose number)) input e in
-    let w = message_of-ok words n.0 n.1 in
-    subst (Holds c line) (ok_is ScriptKind (inputs.Lose n.0) input n.2) ((w.0, after line (codes "lose") words (w.0 ∷ []) b w.1, w.2), tt)
+deliver-ok c line words input b e =
+    let m = of_message-ok inputs.Deliver words input e in
+    subst (Holds c line) m.4 ((m.1, after line (codes "deliver") words (m.1 ∷ []) b m.2, m.3), tt)
+
+lose-ok : (c : Config) (line : List ℕ) (words : List (List ℕ)) (input : Input) → Begins line (codes "lose") words → of_message inputs.Lose words ≡ Ok input
+    → Holds c line input
+lose-ok c line words input b e =
+    let m = of_message-ok inputs.Lose words input e in
+    subst (Holds c line) m.4 ((m.1, after line (codes "lose") words (m.1 ∷ []) b m.2, m.3), tt)
 
 drain_of-ok : (c : Config) (line : List ℕ) (words : List (List ℕ)) (input : Input) → Begins line (codes "drain") words → drain_of words ≡ Ok input
     → Holds c line input
@@ -87,27 +91,30 @@ drain_of-ok c line words input b e =
 
 -- ---- nodes
 
-named : (line due : List ℕ) (words : List (List ℕ)) (word : List ℕ) (node : NodeId) → Begins line due words → words ≡ word ∷ [] → word ≡ node_name node
-    → SpellsNode due (words_of line) node
-named line due words word node b e n = after line due words (node_name node ∷ []) b (e ∙ ap (λ (w : List ℕ). w ∷ []) n)
+of_node-ok : (c : Config) (make : NodeId → Input) (words : List (List ℕ)) (input : Input) → of_node make c words ≡ Ok input
+    → (node : NodeId) × (words ≡ node_name node ∷ []) × IsNodeOf c node × (make node ≡ input)
+unfolding of_node only_node_of
+of_node-ok c make words input e =
+    let n = bind_ok (only_node_of c words) (λ node. Ok (make node)) input e in
+    let w = bind_ok (only_of words) (node_in (nodes_of c)) n.0 n.1 in
+    let h = node_in-ok w.0 n.0 (nodes_of c) w.2 in (
+      n.0,
+      only_of-ok words w.0 w.1 ∙ ap (λ (x : List ℕ). x ∷ []) h.0,
+      among-nodes c n.0 h.1,
+      ok_is ScriptKind (make n.0) input n.2,
+    )
 
-tick_of-ok : (c : Config) (line : List ℕ) (words : List (List ℕ)) (input : Input) → Begins line (codes "tick") words → tick_of c words ≡ Ok input
+tick-ok : (c : Config) (line : List ℕ) (words : List (List ℕ)) (input : Input) → Begins line (codes "tick") words → of_node inputs.Tick c words ≡ Ok input
     → Holds c line input
-unfolding tick_of
-tick_of-ok c line words input b e =
-    let w = bind_ok (only_of words) (λ word. node_in (nodes_of c) word >>= λ node. Ok (inputs.Tick node)) input e in
-    let n = bind_ok (node_in (nodes_of c) w.0) (λ node. Ok (inputs.Tick node)) input w.2 in
-    let h = node_in-ok w.0 n.0 (nodes_of c) n.1 in
-    subst (Holds c line) (ok_is ScriptKind (inputs.Tick n.0) input n.2) (named line (codes "tick") words w.0 n.0 b (only_of-ok words w.0 w.1) h.0, among-nodes c n.0 h.1)
+tick-ok c line words input b e =
+    let n = of_node-ok c inputs.Tick words input e in
+    subst (Holds c line) n.3 (after line (codes "tick") words (node_name n.0 ∷ []) b n.1, n.2)
 
-restart_of-ok : (c : Config) (line : List ℕ) (words : List (List ℕ)) (input : Input) → Begins line (codes "restart") words → restart_of c words ≡ Ok input
+restart-ok : (c : Config) (line : List ℕ) (words : List (List ℕ)) (input : Input) → Begins line (codes "restart") words → of_node inputs.Restart c words ≡ Ok input
     → Holds c line input
-unfolding restart_of
-restart_of-ok c line words input b e =
-    let w = bind_ok (only_of words) (λ word. node_in (nodes_of c) word >>= λ node. Ok (inputs.Restart node)) input e in
-    let n = bind_ok (node_in (nodes_of c) w.0) (λ node. Ok (inputs.Restart node)) input w.2 in
-    let h = node_in-ok w.0 n.0 (nodes_of c) n.1 in
-    subst (Holds c line) (ok_is ScriptKind (inputs.Restart n.0) input n.2) (named line (codes "restart") words w.0 n.0 b (only_of-ok words w.0 w.1) h.0, among-nodes c n.0 h.1)
+restart-ok c line words input b e =
+    let n = of_node-ok c inputs.Restart words input e in
+    subst (Holds c line) n.3 (after line (codes "restart") words (node_name n.0 ∷ []) b n.1, n.2)
 
 -- ---- commands
 
@@ -151,16 +158,16 @@ abbrev from_sixth : Config → List ℕ → List (List ℕ) → Judged Input
 from_sixth c word words = cond (is_word (codes "table") word) (table_of c words) (from_seventh c word words)
 
 abbrev from_fifth : Config → List ℕ → List (List ℕ) → Judged Input
-from_fifth c word words = cond (is_word (codes "restart") word) (restart_of c words) (from_sixth c word words)
+from_fifth c word words = cond (is_word (codes "restart") word) (of_node inputs.Restart c words) (from_sixth c word words)
 
 abbrev from_fourth : Config → List ℕ → List (List ℕ) → Judged Input
-from_fourth c word words = cond (is_word (codes "tick") word) (tick_of c words) (from_fifth c word words)
+from_fourth c word words = cond (is_word (codes "tick") word) (of_node inputs.Tick c words) (from_fifth c word words)
 
 abbrev from_third : Config → List ℕ → List (List ℕ) → Judged Input
-from_third c word words = cond (is_word (codes "lose") word) (lose_of words) (from_fourth c word words)
+from_third c word words = cond (is_word (codes "lose") word) (of_message inputs.Lose words) (from_fourth c word words)
 
 abbrev from_second : Config → List ℕ → List (List ℕ) → Judged Input
-from_second c word words = cond (is_word (codes "deliver") word) (deliver_of words) (from_third c word words)
+from_second c word words = cond (is_word (codes "deliver") word) (of_message inputs.Deliver words) (from_third c word words)
 
 begins : (line due word : List ℕ) (words : List (List ℕ)) → words_of line ≡ word ∷ words → is_word due word ≡ true → Begins line due words
 begins line due word words e same = e ∙ ap (λ (x : List ℕ). x ∷ words) (is_word-same due word same)
@@ -185,26 +192,26 @@ module _ (c : Config) (line word : List ℕ) (words : List (List ℕ)) (input : 
   ]
 
   fifth : from_fifth c word words ≡ Ok input → Holds c line input
-  fifth e = elim (chosen (is_word (codes "restart") word) (restart_of c words) (from_sixth c word words) (Ok input) e) [
-    | inl h ↦ restart_of-ok c line words input (begins line (codes "restart") word words words_are h.0) h.1
+  fifth e = elim (chosen (is_word (codes "restart") word) (of_node inputs.Restart c words) (from_sixth c word words) (Ok input) e) [
+    | inl h ↦ restart-ok c line words input (begins line (codes "restart") word words words_are h.0) h.1
     | inr h ↦ sixth h.1
   ]
 
   fourth : from_fourth c word words ≡ Ok input → Holds c line input
-  fourth e = elim (chosen (is_word (codes "tick") word) (tick_of c words) (from_fifth c word words) (Ok input) e) [
-    | inl h ↦ tick_of-ok c line words input (begins line (codes "tick") word words words_are h.0) h.1
+  fourth e = elim (chosen (is_word (codes "tick") word) (of_node inputs.Tick c words) (from_fifth c word words) (Ok input) e) [
+    | inl h ↦ tick-ok c line words input (begins line (codes "tick") word words words_are h.0) h.1
     | inr h ↦ fifth h.1
   ]
 
   third : from_third c word words ≡ Ok input → Holds c line input
-  third e = elim (chosen (is_word (codes "lose") word) (lose_of words) (from_fourth c word words) (Ok input) e) [
-    | inl h ↦ lose_of-ok c line words input (begins line (codes "lose") word words words_are h.0) h.1
+  third e = elim (chosen (is_word (codes "lose") word) (of_message inputs.Lose words) (from_fourth c word words) (Ok input) e) [
+    | inl h ↦ lose-ok c line words input (begins line (codes "lose") word words words_are h.0) h.1
     | inr h ↦ fourth h.1
   ]
 
   second : from_second c word words ≡ Ok input → Holds c line input
-  second e = elim (chosen (is_word (codes "deliver") word) (deliver_of words) (from_third c word words) (Ok input) e) [
-    | inl h ↦ deliver_of-ok c line words input (begins line (codes "deliver") word words words_are h.0) h.1
+  second e = elim (chosen (is_word (codes "deliver") word) (of_message inputs.Deliver words) (from_third c word words) (Ok input) e) [
+    | inl h ↦ deliver-ok c line words input (begins line (codes "deliver") word words words_are h.0) h.1
     | inr h ↦ third h.1
   ]
 
@@ -246,25 +253,17 @@ submit_back c bytes word words client body s h same b =
     let fits : nat_lt 1024 (length bytes) ≡ false = grind (arith, nat_tests, ap length same) in
     rw (number_below-back (length c.homes) word client s h, fits) (ap (λ (t : List ℕ). Ok (inputs.Submit client t)) same)
 
-deliver_back : (word : List ℕ) (n : ℕ) → SpellsDecimal word n → deliver_of (word ∷ []) ≡ Ok (inputs.Deliver n)
-unfolding deliver_of
-deliver_back word n s = rw (any_number word n s) refl
-
-lose_back : (word : List ℕ) (n : ℕ) → SpellsDecimal word n → lose_of (word ∷ []) ≡ Ok (inputs.Lose n)
-unfolding lose_of
-lose_back word n s = rw (any_number word n s) refl
+message_back : (make : ℕ → Input) (word : List ℕ) (n : ℕ) → SpellsDecimal word n → of_message make (word ∷ []) ≡ Ok (make n)
+unfolding of_message
+message_back make word n s = rw (any_number word n s) refl
 
 drain_back : (word : List ℕ) (n : ℕ) → SpellsDecimal word n → n ≤ 200000 → drain_of (word ∷ []) ≡ Ok (inputs.Drain n)
 unfolding drain_of
 drain_back word n s h = rw (number_in-back (from_to 0 200000) word n s (from_to-true 0 200000 n (omega arith) h)) refl
 
-tick_back : (c : Config) (node : NodeId) → IsNodeOf c node → tick_of c (node_name node ∷ []) ≡ Ok (inputs.Tick node)
-unfolding tick_of
-tick_back c node h = rw (node-found c (node_name node) node refl h) refl
-
-restart_back : (c : Config) (node : NodeId) → IsNodeOf c node → restart_of c (node_name node ∷ []) ≡ Ok (inputs.Restart node)
-unfolding restart_of
-restart_back c node h = rw (node-found c (node_name node) node refl h) refl
+node_back : (c : Config) (make : NodeId → Input) (node : NodeId) → IsNodeOf c node → of_node make c (node_name node ∷ []) ≡ Ok (make node)
+unfolding of_node only_node_of
+node_back c make node h = rw (node-found c (node_name node) node refl h) refl
 
 table_back : (c : Config) (node : NodeId) (words : List (List ℕ)) (rounds : ℕ) (rows : List Row) → SpellsWindow words rounds rows → IsSequencerOf c node
     → IsCommandOf c (commands.Table rounds rows) → table_of c (node_name node ∷ words) ≡ Ok (inputs.Command node (commands.Table rounds rows))
@@ -282,10 +281,10 @@ pub input_in-back : (c : Config) (line : List ℕ) (input : Input) → IsTrue (i
 input_in-back c line (inputs.Submit client body) p s h =
     let b = submit-back line client body s in
     spelled c line (codes "submit" ∷ b.word ∷ b.words) (inputs.Submit client body) p b.words_are (submit_back c (body_of line) b.word b.words client body b.client_is h.0 b.body_is h.1)
-input_in-back c line (inputs.Deliver n) p s h = spelled c line (codes "deliver" ∷ s.0 ∷ []) (inputs.Deliver n) p s.1 (deliver_back s.0 n s.2)
-input_in-back c line (inputs.Lose n) p s h = spelled c line (codes "lose" ∷ s.0 ∷ []) (inputs.Lose n) p s.1 (lose_back s.0 n s.2)
-input_in-back c line (inputs.Tick node) p s h = spelled c line (codes "tick" ∷ node_name node ∷ []) (inputs.Tick node) p s (tick_back c node h)
-input_in-back c line (inputs.Restart node) p s h = spelled c line (codes "restart" ∷ node_name node ∷ []) (inputs.Restart node) p s (restart_back c node h)
+input_in-back c line (inputs.Deliver n) p s h = spelled c line (codes "deliver" ∷ s.0 ∷ []) (inputs.Deliver n) p s.1 (message_back inputs.Deliver s.0 n s.2)
+input_in-back c line (inputs.Lose n) p s h = spelled c line (codes "lose" ∷ s.0 ∷ []) (inputs.Lose n) p s.1 (message_back inputs.Lose s.0 n s.2)
+input_in-back c line (inputs.Tick node) p s h = spelled c line (codes "tick" ∷ node_name node ∷ []) (inputs.Tick node) p s (node_back c inputs.Tick node h)
+input_in-back c line (inputs.Restart node) p s h = spelled c line (codes "restart" ∷ node_name node ∷ []) (inputs.Restart node) p s (node_back c inputs.Restart node h)
 input_in-back c line (inputs.Command node (commands.Table rounds rows)) p s h =
     spelled c line (codes "table" ∷ node_name node ∷ s.0) (inputs.Command node (commands.Table rounds rows)) p s.1 (table_back c node s.0 rounds rows s.2 h.0 h.1)
 input_in-back c line (inputs.Command node (commands.Remove shard)) p s h =

@@ -189,15 +189,11 @@ message_of words = do
   word ← only_of words
   number_in (λ _. true) word
 
-unfoldable pub deliver_of : List (List ℕ) → Judged Input
-deliver_of words = do
+-- an input that names a message alone
+unfoldable pub of_message : (ℕ → Input) → List (List ℕ) → Judged Input
+of_message make words = do
   number ← message_of words
-  Ok (inputs.Deliver number)
-
-unfoldable pub lose_of : List (List ℕ) → Judged Input
-lose_of words = do
-  number ← message_of words
-  Ok (inputs.Lose number)
+  Ok (make number)
 
 unfoldable pub drain_of : List (List ℕ) → Judged Input
 drain_of words = do
@@ -205,17 +201,17 @@ drain_of words = do
   count ← number_in (from_to 0 200000) word
   Ok (inputs.Drain count)
 
-unfoldable pub tick_of : Config → List (List ℕ) → Judged Input
-tick_of c words = do
+-- any node
+unfoldable pub only_node_of : Config → List (List ℕ) → Judged NodeId
+only_node_of c words = do
   word ← only_of words
-  node ← node_in (nodes_of c) word
-  Ok (inputs.Tick node)
+  node_in (nodes_of c) word
 
-unfoldable pub restart_of : Config → List (List ℕ) → Judged Input
-restart_of c words = do
-  word ← only_of words
-  node ← node_in (nodes_of c) word
-  Ok (inputs.Restart node)
+-- an input that names a node alone
+unfoldable pub of_node : (NodeId → Input) → Config → List (List ℕ) → Judged Input
+of_node make c words = do
+  node ← only_node_of c words
+  Ok (make node)
 
 -- a sequencer, rounds, rows
 unfoldable pub table_of : Config → List (List ℕ) → Judged Input
@@ -239,10 +235,10 @@ abbrev pub form_of : Config → List ℕ → List (List ℕ) → Judged Input
 form_of c body [] = Err kinds.Word
 form_of c body (word ∷ words) =
     if is_word (codes "submit") word then submit_of c body words
-    else if is_word (codes "deliver") word then deliver_of words
-    else if is_word (codes "lose") word then lose_of words
-    else if is_word (codes "tick") word then tick_of c words
-    else if is_word (codes "restart") word then restart_of c words
+    else if is_word (codes "deliver") word then of_message inputs.Deliver words
+    else if is_word (codes "lose") word then of_message inputs.Lose words
+    else if is_word (codes "tick") word then of_node inputs.Tick c words
+    else if is_word (codes "restart") word then of_node inputs.Restart c words
     else if is_word (codes "table") word then table_of c words
     else if is_word (codes "remove") word then remove_of c words
     else if is_word (codes "drain") word then drain_of words

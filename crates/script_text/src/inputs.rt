@@ -4,7 +4,7 @@ ghost use Rattle.std.specs.Prelude.{◌≡◌, ◌↔◌, ◌∷◌, drop, IsTru
 ghost use Rattle.msg_wire.specs.Nodes.{nodes_of, sequencers_of};
 ghost use Rattle.msg_wire.specs.Valid.{IsValidConfig, IsSequencerOf};
 ghost use Rattle.script_text.specs.Words.{is_printable, words_of, after_word};
-ghost use Rattle.script_text.specs.Judged.{node_in, body_in, submit_of, message_of, deliver_of, lose_of, drain_of, tick_of, restart_of, table_of, remove_of, form_of, input_in};
+ghost use Rattle.script_text.specs.Judged.{node_in, body_in, submit_of, message_of, only_node_of, drain_of, table_of, remove_of, form_of, input_in};
 ghost use Rattle.script_text.specs.Answers.{Says};
 
 use crate::decimal::{number, number_below, number_within};
@@ -42,6 +42,7 @@ pub(crate) fn input_line(
 }
 
 /// By the first word, and what follows it.
+#[tactic(auto, unfolding(crate::specs::Judged::of_message, crate::specs::Judged::of_node))]
 fn form(alloc: Global, cfg: &Config, word: &[u8], rest: &[u8]) -> Result<Input, LineError>
     requires { IsValidConfig cfg.now }
     ensures { Says result (form_of cfg.now (drop 1 (after_word rest.now)) (word.now ∷ words_of rest.now)) }
@@ -50,16 +51,24 @@ fn form(alloc: Global, cfg: &Config, word: &[u8], rest: &[u8]) -> Result<Input, 
         return submit(alloc, cfg, rest);
     }
     if word == b"deliver".as_slice() {
-        return deliver(rest);
+        return Ok(Input::Deliver {
+            number: message(rest)?,
+        });
     }
     if word == b"lose".as_slice() {
-        return lose(rest);
+        return Ok(Input::Lose {
+            number: message(rest)?,
+        });
     }
     if word == b"tick".as_slice() {
-        return tick(cfg, rest);
+        return Ok(Input::Tick {
+            node: only_node(cfg, rest)?,
+        });
     }
     if word == b"restart".as_slice() {
-        return restart(cfg, rest);
+        return Ok(Input::Restart {
+            node: only_node(cfg, rest)?,
+        });
     }
     if word == b"table".as_slice() {
         return table(alloc, cfg, rest);
@@ -102,24 +111,6 @@ fn body(alloc: Global, after: &[u8]) -> Result<Body, LineError>
     Ok(Body::of(alloc, bytes)?)
 }
 
-/// `deliver M`.
-#[tactic(auto, unfolding(crate::specs::Judged::deliver_of))]
-fn deliver(rest: &[u8]) -> Result<Input, LineError>
-    ensures { Says result (deliver_of (words_of rest.now)) }
-{
-    let number = message(rest)?;
-    Ok(Input::Deliver { number })
-}
-
-/// `lose M`.
-#[tactic(auto, unfolding(crate::specs::Judged::lose_of))]
-fn lose(rest: &[u8]) -> Result<Input, LineError>
-    ensures { Says result (lose_of (words_of rest.now)) }
-{
-    let number = message(rest)?;
-    Ok(Input::Lose { number })
-}
-
 /// The number of a message, which may be any.
 #[tactic(auto, unfolding(crate::specs::Judged::message_of))]
 fn message(rest: &[u8]) -> Result<u64, ScriptKind>
@@ -129,26 +120,14 @@ fn message(rest: &[u8]) -> Result<u64, ScriptKind>
     number(word)
 }
 
-/// `tick NODE`.
-#[tactic(auto, unfolding(crate::specs::Judged::tick_of))]
-fn tick(cfg: &Config, rest: &[u8]) -> Result<Input, LineError>
+/// The one word, the name of a node.
+#[tactic(auto, unfolding(crate::specs::Judged::only_node_of))]
+fn only_node(cfg: &Config, rest: &[u8]) -> Result<NodeId, ScriptKind>
     requires { IsValidConfig cfg.now }
-    ensures { Says result (tick_of cfg.now (words_of rest.now)) }
+    ensures { result ≡ only_node_of cfg.now (words_of rest.now) }
 {
     let word = only_word(rest)?;
-    let node = node(cfg, word)?;
-    Ok(Input::Tick { node })
-}
-
-/// `restart NODE`.
-#[tactic(auto, unfolding(crate::specs::Judged::restart_of))]
-fn restart(cfg: &Config, rest: &[u8]) -> Result<Input, LineError>
-    requires { IsValidConfig cfg.now }
-    ensures { Says result (restart_of cfg.now (words_of rest.now)) }
-{
-    let word = only_word(rest)?;
-    let node = node(cfg, word)?;
-    Ok(Input::Restart { node })
+    node(cfg, word)
 }
 
 /// `table NODE K s:q ..`.
