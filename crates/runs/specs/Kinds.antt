@@ -3,7 +3,7 @@ use Rattle.std.specs.Prelude.{ℕ, List}
 use Rattle.net_model.specs.Pasts.{Past}
 use Rattle.net_model.specs.Tables.{StepTable, items_of, state_of}
 use Rattle.node_rules.specs.Nodes.{Node}
-use Rattle.node_rules.specs.Turns.{step_of}
+use Rattle.node_rules.specs.Turns.{Turn, step_of}
 use Rattle.seq_node.specs.States.{SequencerState}
 use Rattle.seq_node.specs.Steps.{sequencer_step}
 use Rattle.seq_node.specs.Restart as sequencer
@@ -23,37 +23,26 @@ use Rattle.runs.specs.Names.nodes
 
 -- ---- the table of each kind, at a node
 
-abbrev pub sequencer_table : Config → NodeId → StepTable (Node SequencerState)
-sequencer_table cfg node = record {
-  fresh = sequencer.fresh_node cfg node;
-  restart = sequencer.restart_of cfg node;
-  gives = λ n event. step_of (sequencer_step n event);
-  leaves = λ n event. (sequencer_step n event).state;
+-- of how a node of the kind begins, what its vault gives, and its steps
+abbrev pub table_of : {S : Type 0} → Node S → (List Item → Node S) → (Node S → Event → Turn S) → StepTable (Node S)
+table_of fresh restart step = record {
+  fresh = fresh;
+  restart = restart;
+  gives = λ n event. step_of (step n event);
+  leaves = λ n event. (step n event).state;
 }
+
+abbrev pub sequencer_table : Config → NodeId → StepTable (Node SequencerState)
+sequencer_table cfg node = table_of (sequencer.fresh_node cfg node) (sequencer.restart_of cfg node) sequencer_step
 
 abbrev pub replica_table : Config → NodeId → StepTable (Node ReplicaState)
-replica_table cfg node = record {
-  fresh = replica.fresh_node cfg node;
-  restart = replica.restart_of cfg node;
-  gives = λ n event. step_of (replica_step n event);
-  leaves = λ n event. (replica_step n event).state;
-}
+replica_table cfg node = table_of (replica.fresh_node cfg node) (replica.restart_of cfg node) replica_step
 
 abbrev pub client_table : Config → NodeId → StepTable (Node ClientState)
-client_table cfg node = record {
-  fresh = client.fresh_node cfg node;
-  restart = client.restart_of cfg node;
-  gives = λ n event. step_of (client_step n event);
-  leaves = λ n event. (client_step n event).state;
-}
+client_table cfg node = table_of (client.fresh_node cfg node) (client.restart_of cfg node) client_step
 
 abbrev pub consumer_table : Config → NodeId → StepTable (Node (ConsumerState AnyApp))
-consumer_table cfg node = record {
-  fresh = consumer.fresh_node any_meaning cfg node;
-  restart = consumer.restart_of any_meaning cfg node;
-  gives = λ n event. step_of (consumer_step any_meaning n event);
-  leaves = λ n event. (consumer_step any_meaning n event).state;
-}
+consumer_table cfg node = table_of (consumer.fresh_node any_meaning cfg node) (consumer.restart_of any_meaning cfg node) (consumer_step any_meaning)
 
 -- ---- a node's state so far
 

@@ -19,7 +19,7 @@ use Rattle.runs.specs.Maps.{WasKnown}
 use Rattle.runs.specs.Consumers.{positions_between}
 use Rattle.runs.specs.FirstSteps.{steps}
 
-abbrev entry : NodeId → Event → List Message → List Mark → HistoryEntry
+abbrev pub entry : NodeId → Event → List Message → List Mark → HistoryEntry
 entry node event sends shown = record { node = node; event = event; sends = sends; marks = shown }
 
 -- ---- a record's whole way

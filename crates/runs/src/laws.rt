@@ -1,4 +1,4 @@
-//! What is shown of the definitions of runs and laws so far. Nothing is shown of all runs yet.
+//! What is shown of the definitions of runs and laws by themselves. The laws of all runs stand in the crates `safety_..` above.
 ghost use Rattle.runs.specs.Names.{Config};
 ghost use Rattle.runs.specs.Journals.{MergesAreRuns};
 ghost use Rattle.runs.specs.FirstSteps.{FirstSteps};
@@ -10,6 +10,12 @@ ghost use Rattle.runs.specs.Speculating.{UnnoticedFollows};
 /// The first steps of a script, worked out by hand, are a run.
 pub fn first_steps_are_a_run()
     ensures { FirstSteps }
+{}
+
+/// The merge of the journals of a cluster's nodes is a run: where each journal is a list of steps of its node from its
+/// start, its stamps rise, and each delivered message was sent by a step with a smaller stamp.
+pub fn merged_journals_are_a_run()
+    ensures { (cfg : Config) → MergesAreRuns cfg }
 {}
 
 /// Two runs worked out by hand, a record's whole way and a client's move, meet the premises of the laws, so that each says something of a run.
@@ -30,10 +36,4 @@ pub fn broken_passes_are_refused()
 /// Where no node noticed a removal, all that is marked at a position is of one record: three of the laws give it together.
 pub fn unnoticed_follows()
     ensures { UnnoticedFollows }
-{}
-
-/// The merge of the journals of a cluster's nodes is a run: where each journal is a list of steps of its node from its
-/// start, its stamps rise, and each delivered message was sent by a step with a smaller stamp.
-pub fn merged_journals_are_a_run()
-    ensures { (cfg : Config) → MergesAreRuns cfg }
 {}
