@@ -6,7 +6,7 @@ use Rattle.std.proofs.lemmas.List.Elements.{All-contains, All-from_recursion, Co
 use Rattle.std.proofs.lemmas.Option.{slice_get_within}
 use Rattle.fix_ante.proofs.Entries.{slice_get-append_left}
 use Rattle.majority.proofs.Lists.{Contains-here, Contains-later}
-use Rattle.runs.specs.Marks.{IsPrefix}
+use Rattle.runs.specs.Marks.{IsPrefix, EachAfter}
 
 -- ---- beginnings
 
@@ -58,3 +58,12 @@ all_front P (x ∷ xs) ys all = (all.0, all_front P xs ys all.1)
 pub all_back : {A : Type 0} (P : A → Type 0) (xs ys : List A) → AllByRecursion P (xs ++ ys) → AllByRecursion P ys
 all_back P [] ys all = all
 all_back P (x ∷ xs) ys all = all_back P xs ys all.1
+
+-- ---- each member, given the earlier ones
+
+-- one member more, after all the others
+pub each_push : {A : Type 0} (P : List A → A → Type 0) (before xs : List A) (x : A) → EachAfter P before xs → P (before ++ xs) x
+    → EachAfter P before (xs ++ x ∷ [])
+each_push P before [] x each at = (subst (λ l. P l x) (append-nil before) at, tt)
+each_push P before (y ∷ ys) x each at =
+    (each.0, each_push P (before ++ y ∷ []) ys x each.1 (subst (λ l. P l x) (sym (append_assoc before (y ∷ []) ys)) at))

@@ -1,8 +1,9 @@
 -- What one entry more leaves of each node: of the entry's own what its step leaves, of others what was.
 use Rattle.std.proofs.Common.{◌≡◌, ◌∙◌, ℕ, Bool, true, false, List, [], ◌∷◌, ◌++◌, append-nil, refl, ap, subst}
-use Rattle.std.specs.Prelude.{IsTrue, if◌then◌else◌}
+use Rattle.std.specs.Prelude.{IsTrue, if◌then◌else◌, Contains}
 use Rattle.std.proofs.lemmas.List.Elements.{filter_map-append}
 use Rattle.std.proofs.lemmas.Grind.{flat_map-append}
+use Rattle.majority.proofs.Lists.{Contains-none}
 use Rattle.msg_wire.specs.Nodes.{same_node, is_sequencer, is_replica, is_client, is_consumer}
 use Rattle.msg_wire.specs.Valid.{IsValidConfig, IsNodeOf}
 use Rattle.net_model.specs.Pasts.{Past, marks_of, submissions_of, body_in}
@@ -19,6 +20,10 @@ use Rattle.runs.proofs.Restarts.{events_valid}
 use Rattle.runs.proofs.SameNodes.{same_node_is}
 use Rattle.safety_frame.proofs.NodeKinds.{Kind, table, after, stored, sequencers, replicas, clients, consumers}
 use Rattle.safety_frame.proofs.Lists.{begins_same}
+
+pub on_own : {P : Type 0} (b : Bool) → (b ≡ true → P) → (b ≡ false → P) → P
+on_own true own other = own refl
+on_own false own other = other refl
 
 -- ---- of any kind
 
@@ -100,11 +105,14 @@ no_items cfg (nodes.Shard n side) = refl
 no_items cfg (nodes.Client n) = refl
 no_items cfg (nodes.Consumer n) = refl
 
--- ---- lists that grow at their ends
+-- a node that has stored an item is one of the cluster
+pub stores_within : (cfg : Config) (node : NodeId) (item : Item) (past : Past) → IsPastOf cfg past → Contains (items_at cfg node past) item → IsNodeOf cfg node
+stores_within cfg node item [] run there = absurd (Contains-none item (subst (λ l. Contains l item) (no_items cfg node) there))
+stores_within cfg node item (e ∷ past) run there =
+    on_own (same_node e.node node) (λ own. subst (IsNodeOf cfg) (same_node_is e.node node own) run.0.within)
+    (λ other. stores_within cfg node item past run.1 (subst (λ l. Contains l item) (other_stored cfg node e past other) there))
 
-pub on_own : {P : Type 0} (b : Bool) → (b ≡ true → P) → (b ≡ false → P) → P
-on_own true own other = own refl
-on_own false own other = other refl
+-- ---- lists that grow at their ends
 
 pub items_grow : (cfg : Config) (node : NodeId) (e : HistoryEntry) (past : Past) → IsPrefix (items_at cfg node past) (items_at cfg node (e ∷ past))
 items_grow cfg node e past =
