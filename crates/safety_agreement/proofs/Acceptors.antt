@@ -115,6 +115,7 @@ module _ (cfg : Config) (valid : IsValidConfig cfg) (slot : ℕ) where
           promised = λ ballot c. absurd (Contains-none _ c);
           accepted = λ ballot entry c. absurd (Contains-none _ c);
           last = λ ballot entry c. Contains-none _ c;
+          rises = tt;
         };
         steps = λ e past run one before.
             let n = after sequencers cfg e.node past in

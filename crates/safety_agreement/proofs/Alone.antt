@@ -7,7 +7,7 @@ use Rattle.majority.specs.Ballots.{greater_promise, is_majority}
 use Rattle.majority.specs.Acceptors.{AcceptorState, with_promise, with_vote}
 use Rattle.majority.specs.Proposers.{Attempt, value_to_send, value_of_report, with_heard, with_sending, greater_report}
 use Rattle.majority.specs.Slot.{Promise, Accept, SlotState, with_entry}
-use Rattle.majority.proofs.Agreement.{IsSound, IsAttemptIfAny, bars_of}
+use Rattle.majority.specs.Agreement.{IsSound, IsAttemptIfAny, bars_of}
 use Rattle.majority.proofs.Entries.{with_entry-cases, with_entry-other}
 use Rattle.majority.proofs.Lists.{Contains-here}
 use Rattle.majority.proofs.Steps.{with_entry-here, IsSound-same}

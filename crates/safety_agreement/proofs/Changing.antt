@@ -5,7 +5,7 @@ use Rattle.majority.specs.Acceptors.{AcceptorState}
 use Rattle.majority.specs.Proposers.{Attempt}
 use Rattle.majority.specs.Votes.{Vote, HasVote}
 use Rattle.majority.specs.Slot.{Message as SlotMessage, SlotState}
-use Rattle.majority.proofs.Agreement.{IsSound}
+use Rattle.majority.specs.Agreement.{IsSound}
 use Rattle.majority.proofs.Lists.{Contains-here, Contains-later, Contains-cases}
 use Rattle.majority.proofs.Steps.{with_entry-here}
 use Rattle.seq_node.specs.States.{SequencerState, acceptor_at}

@@ -5,7 +5,7 @@ use Rattle.std.proofs.lemmas.Bool.{eqb-true}
 use Rattle.majority.specs.Proposers.{with_heard, with_acceptance}
 use Rattle.majority.specs.Votes.{HasVote}
 use Rattle.majority.specs.Slot.{SlotState}
-use Rattle.majority.proofs.Agreement.{IsSound}
+use Rattle.majority.specs.Agreement.{IsSound}
 use Rattle.msg_wire.specs.Nodes.{number_of}
 use Rattle.node_rules.specs.Names.{Event}
 use Rattle.node_rules.specs.Nodes.{Node, agreed_by}

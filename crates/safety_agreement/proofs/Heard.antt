@@ -1,9 +1,10 @@
 -- The promises that an attempt has counted were sent to it: a Promise goes to the attempt of its slot and its ballot alone.
-use Rattle.std.proofs.Common.{◌≡◌, ◌∙◌, ℕ, ◌<◌, List, [], ◌∷◌, ◌++◌, Contains, Option, Some, None, inl, inr, ◌⊎◌, refl, sym, ap, subst, arith, nat_lt}
+use Rattle.std.proofs.Common.{◌≡◌, ◌∙◌, ℕ, ◌<◌, List, [], ◌∷◌, ◌++◌, Contains, Option, Some, None, inl, inr, ◌⊎◌, refl, sym, ap, subst, arith}
 use Rattle.std.proofs.lemmas.List.Elements.{Contains-append_left}
-use Rattle.majority.specs.Proposers.{Attempt, with_heard, greater_report}
-use Rattle.majority.proofs.Heard.{Covers-first, Covers-second, Covers_refl}
-use Rattle.majority.proofs.Members.{Contains-with_replica}
+use Rattle.majority.specs.Proposers.{Attempt}
+use Rattle.majority.specs.Agreement.{HasPromises, ReportedBy}
+use Rattle.majority.proofs.Growth.{HasPromises-kept}
+use Rattle.majority.proofs.Heard.{HasPromises-heard}
 use Rattle.majority.proofs.Starts.{Contains-alone}
 use Rattle.msg_wire.specs.Nodes.{number_of}
 use Rattle.msg_wire.specs.Valid.{IsValidConfig}
@@ -11,84 +12,33 @@ use Rattle.net_model.specs.Pasts.{Past, sent}
 use Rattle.node_rules.specs.Names.{Event}
 use Rattle.node_rules.specs.Nodes.{Node, agreed_by}
 use Rattle.node_rules.specs.Turns.{Turn}
-use Rattle.node_rules.proofs.Lists.{on_test}
 use Rattle.seq_node.specs.States.{SlotAttempt, SequencerState, with_idle}
 use Rattle.seq_node.proofs.Places.{Promising, promise_comes, promise_alone, Stores, promised, accepted, begins_at_once, begins, sends, is_late, is_lower, is_waiting, Changes, waits, hears, reports, wishes, idles}
 use Rattle.runs.specs.Names.{NodeId, Config, Entry, Item, Message}
 use Rattle.runs.specs.Names.nodes
+use Rattle.runs.specs.Kinds.{sequencer_after}
 use Rattle.runs.specs.Runs.{Comes as ComesIn, IsPastOf}
 use Rattle.safety_frame.proofs.Inductions.{OfStates, every_state}
 use Rattle.safety_frame.proofs.Names.{IsNamed, states_named}
 use Rattle.safety_frame.proofs.NodeKinds.{after, sequencers}
-use Rattle.safety_frame.specs.EveryRun.{OfEveryRun}
-use Rattle.safety_agreement.specs.Heard.{IsPromised, IsReported, HasPromises, AttemptsHavePromises}
+use Rattle.safety_agreement.specs.Heard.{IsPromised}
 use Rattle.safety_agreement.proofs.Standing.{over_or_same, report_leaves}
 use Rattle.safety_agreement.proofs.OwnedSteps.{number_below}
 
+-- what was promised to an attempt of the node
+abbrev Promised : List Message → NodeId → SlotAttempt → ℕ → Option (ℕ × Entry) → Type 0
+Promised messages me a = IsPromised messages me a.slot a.attempt.ballot
+
 abbrev MayHave : List Message → NodeId → Option SlotAttempt → Type 0
 MayHave messages me None = Unit {0}
-MayHave messages me (Some a) = HasPromises messages me a.slot a.attempt
+MayHave messages me (Some a) = HasPromises (number_of me) (Promised messages me a) a.attempt
 
--- ---- it stays so as more is sent
-
-promised_on : (messages more : List Message) (me : NodeId) (slot ballot other : ℕ) (report : Option (ℕ × Entry))
-    → IsPromised messages me slot ballot other report → IsPromised (messages ++ more) me slot ballot other report
-promised_on messages more me slot ballot other report is = (is.0, Contains-append_left messages more is.0 is.1, is.2, is.3, is.4)
-
-reported_on : (messages more : List Message) (me : NodeId) (slot ballot : ℕ) (report : Option (ℕ × Entry)) → IsReported messages me slot ballot report
-    → IsReported (messages ++ more) me slot ballot report
-reported_on messages more me slot ballot None is = tt
-reported_on messages more me slot ballot (Some report) is = (is.0, promised_on messages more me slot ballot is.0 (Some report) is.1)
-
+-- it stays so as more is sent
 has_on : (messages more : List Message) (me : NodeId) (o : Option SlotAttempt) → MayHave messages me o → MayHave (messages ++ more) me o
 has_on messages more me None has = tt
-has_on messages more me (Some a) has = record {
-  heard = λ other there. elim (has.heard other there) [
-    | inl own ↦ inl own
-    | inr was ↦ inr (was.0, promised_on messages more me a.slot a.attempt.ballot other was.0 was.1, was.2)
-  ];
-  reported = reported_on messages more me a.slot a.attempt.ballot a.attempt.reported has.reported;
-}
-
--- ---- one promise more
-
-module _ (messages : List Message) (me : NodeId) (slot : ℕ) (a : Attempt Entry) (has : HasPromises messages me slot a) where
-  reported_greater : (p q : Option (ℕ × Entry)) → IsReported messages me slot a.ballot p → IsReported messages me slot a.ballot q
-      → IsReported messages me slot a.ballot (greater_report p q)
-  reported_greater None q one other = other
-  reported_greater (Some p) None one other = one
-  reported_greater (Some p) (Some q) one other =
-      on_test (IsReported messages me slot a.ballot) (nat_lt p.0 q.0) (Some q) (Some p) (λ _. other) (λ _. one)
-
-  reported_by : (other : ℕ) (report : Option (ℕ × Entry)) → IsPromised messages me slot a.ballot other report → IsReported messages me slot a.ballot report
-  reported_by other None is = tt
-  reported_by other (Some report) is = (other, is)
-
-  -- another's, or the own one, which reports nothing
-  heard_one : (from : ℕ) (report : Option (ℕ × Entry))
-      → IsPromised messages me slot a.ballot from report ⊎ ((from ≡ number_of me) × (report ≡ None))
-      → HasPromises messages me slot (with_heard from report a)
-  heard_one from report is = record {
-    heard = λ other there. elim (Contains-with_replica from other a.promises there) [
-      | inl before ↦ elim (has.heard other before) [
-        | inl own ↦ inl own
-        | inr was ↦ inr (was.0, was.1, Covers-first a.reported report was.0 was.2)
-      ]
-      | inr new ↦ elim is [
-        | inl came ↦ inr (
-          report,
-          subst (λ k. IsPromised messages me slot a.ballot k report) new came,
-          Covers-second a.reported report report
-              (Covers_refl report),
-        )
-        | inr own ↦ inl (sym new ∙ own.0)
-      ]
-    ];
-    reported = reported_greater a.reported report has.reported (elim is [
-      | inl came ↦ reported_by from report came
-      | inr own ↦ subst (IsReported messages me slot a.ballot) (sym own.1) tt
-    ]);
-  }
+has_on messages more me (Some a) has =
+    HasPromises-kept (number_of me) (Promised messages me a) (Promised (messages ++ more) me a)
+    (λ other report is. (is.0, Contains-append_left messages more is.0 is.1, is.2, is.3, is.4)) a.attempt has
 
 -- ---- at each place
 
@@ -105,10 +55,10 @@ module _ (cfg : Config) (me : NodeId) (here : number_of me < cfg.seqs) (past : P
       inr (omega (arith, few, here), refl)
 
   begun_has : (s : Node SequencerState) (slot : ℕ) (a : Attempt Entry) → IsNamed cfg me s → a.promises ≡ number_of s.base.me ∷ [] → a.reported ≡ None
-      → HasPromises (sent past) me slot a
+      → HasPromises (number_of me) (IsPromised (sent past) me slot a.ballot) a
   begun_has s slot a named alone none = record {
     heard = λ other there. inl (sym (Contains-alone (number_of s.base.me) other (subst (λ l. Contains l other) alone there)) ∙ ap number_of named.1);
-    reported = subst (IsReported (sent past) me slot a.ballot) (sym none) tt;
+    reported = subst (ReportedBy (IsPromised (sent past) me slot a.ballot) a.promises) (sym none) tt;
   }
 
   abbrev Has : Option SlotAttempt → Type 0
@@ -121,16 +71,16 @@ module _ (cfg : Config) (me : NodeId) (here : number_of me < cfg.seqs) (past : P
   stores_has s _ _ (begins_at_once value why) named has = begun_has s _ _ named refl refl
   stores_has s _ _ (begins ballot value why later) named has = begun_has s _ _ named refl refl
   stores_has s _ _ (sends a replica report value counted why) named has =
-      let one = heard_one (sent past) me a.slot a.attempt (subst Has counted.stands has) replica report
-      (promise_is s a.slot a.attempt.ballot replica report named counted.promise) in
+      let one = HasPromises-heard (number_of me) (Promised (sent past) me a) replica report a.attempt
+      (promise_is s a.slot a.attempt.ballot replica report named counted.promise) (subst Has counted.stands has) in
       record { heard = one.heard; reported = one.reported }
 
   changes_has : (s : Node SequencerState) (own : SequencerState) → Changes n event s own → IsNamed cfg me s → Has s.own.attempt → Has own.attempt
   changes_has s _ (waits a replica report _ counted (is_late late)) named has = subst Has counted.stands has
   changes_has s _ (waits a replica report _ counted (is_lower greater e)) named has = subst Has counted.stands has
   changes_has s _ (waits a replica report _ counted (is_waiting not_yet few)) named has =
-      heard_one (sent past) me a.slot a.attempt (subst Has counted.stands has) replica report
-      (promise_is s a.slot a.attempt.ballot replica report named counted.promise)
+      HasPromises-heard (number_of me) (Promised (sent past) me a) replica report a.attempt
+      (promise_is s a.slot a.attempt.ballot replica report named counted.promise) (subst Has counted.stands has)
   changes_has s _ (hears a replica value stands why sending) named has =
       let was = subst Has stands has in
       record { heard = was.heard; reported = was.reported }
@@ -177,6 +127,7 @@ all_have cfg valid =
       stays = λ e past node n run other has. has_on (sent past) e.sends node n.own.attempt has;
     })
 
-pub attempts_have_promises : OfEveryRun AttemptsHavePromises
-attempts_have_promises cfg past valid run number a here stands =
+pub promises_were_sent : (cfg : Config) (past : Past) → IsValidConfig cfg → IsPastOf cfg past → (number : ℕ) (a : SlotAttempt) → number < cfg.seqs
+    → (sequencer_after cfg number past).own.attempt ≡ Some a → HasPromises number (Promised (sent past) (nodes.Seq number) a) a.attempt
+promises_were_sent cfg past valid run number a here stands =
     subst (MayHave (sent past) (nodes.Seq number)) stands (all_have cfg valid past run (nodes.Seq number) refl here)

@@ -25,9 +25,10 @@ use Rattle.safety_frame.proofs.StableParts.{replica_known, client_known, consume
 use Rattle.safety_frame.proofs.Known.{agreed_is_longest}
 use Rattle.safety_frame.proofs.Inductions.{every_past}
 use Rattle.safety_frame.specs.EveryRun.{OfEveryRun}
+use Rattle.safety_agreement.specs.Chosen.{AgreedIsChosen}
 use Rattle.safety_agreement.proofs.OtherKinds.{on_kind, told_stays}
 use Rattle.safety_agreement.proofs.Slots.{decided_there, knew, knows}
-use Rattle.safety_agreement.proofs.Reading.{one_is_chosen, each_known_is_chosen}
+use Rattle.safety_agreement.proofs.Chosen.{one_is_chosen, each_known_is_chosen}
 
 -- some sequencer knows it too
 abbrev IsDecided : Config → Past → ℕ → Entry → Type 0
@@ -102,8 +103,8 @@ there_below [] k below = absurd (omega (arith, below))
 there_below (x ∷ xs) zero below = (x, refl)
 there_below (x ∷ xs) (suc k) below = there_below xs k (omega (arith, below))
 
-pub known_is_chosen : OfEveryRun KnownIsChosen
-known_is_chosen cfg past valid run =
+pub agreed_is_chosen : OfEveryRun AgreedIsChosen
+agreed_is_chosen cfg past valid run =
     let agreed = agreed_list cfg past in
     let longest = agreed_is_longest cfg past run in
     let was = longest.was_known in
@@ -111,19 +112,19 @@ known_is_chosen cfg past valid run =
     let among : (slot : ℕ) (entry : Entry) → slice_get agreed slot ≡ Some entry → slice_get (known_at cfg knower past) slot ≡ Some entry =
     λ slot entry at. index_stays agreed (known_at cfg knower past) slot entry was.1 at in
     record {
-      one_each = one_is_chosen cfg past valid run;
-      one_list = (
-        agreed,
-        record {
-          chosen = λ slot entry at. each_known_is_chosen cfg past valid run knower slot entry (among slot entry at);
-          begins = λ node. shorter_begins (known_at cfg node past) agreed (λ slot entry at.
-              let decided = all_decided cfg valid past run node slot entry at in
-              let below = slice_get_within (known_at cfg (nodes.Seq decided.0) past) slot entry decided.1 in
-              let there = there_below agreed slot (omega (arith, below, longest.longest decided.0)) in
-              let same : there.0 ≡ entry =
-              one_is_chosen cfg past valid run slot there.0 entry (each_known_is_chosen cfg past valid run knower slot there.0 (among slot there.0 there.1))
-              (each_known_is_chosen cfg past valid run node slot entry at) in
-              there.1 ∙ ap (λ v. Some v) same);
-        },
-      );
+      chosen = λ slot entry at. each_known_is_chosen cfg past valid run knower slot entry (among slot entry at);
+      begins = λ node. shorter_begins (known_at cfg node past) agreed (λ slot entry at.
+          let decided = all_decided cfg valid past run node slot entry at in
+          let below = slice_get_within (known_at cfg (nodes.Seq decided.0) past) slot entry decided.1 in
+          let there = there_below agreed slot (omega (arith, below, longest.longest decided.0)) in
+          let same : there.0 ≡ entry =
+          one_is_chosen cfg past valid run slot there.0 entry (each_known_is_chosen cfg past valid run knower slot there.0 (among slot there.0 there.1))
+          (each_known_is_chosen cfg past valid run node slot entry at) in
+          there.1 ∙ ap (λ v. Some v) same);
     }
+
+pub known_is_chosen : OfEveryRun KnownIsChosen
+known_is_chosen cfg past valid run = record {
+  one_each = one_is_chosen cfg past valid run;
+  one_list = (agreed_list cfg past, agreed_is_chosen cfg past valid run);
+}

@@ -19,5 +19,11 @@ pub mod OtherKinds
 pub mod Slots
 pub mod EverySlot
 pub mod Reading
+pub mod Votes
+pub mod OneValue
+pub mod Promises
+pub mod Attempts
+pub mod SafeVotes
+pub mod Chosen
 pub mod KnownLists
 pub mod Heard

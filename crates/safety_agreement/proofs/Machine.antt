@@ -8,7 +8,7 @@ use Rattle.majority.specs.declared.answers.PromiseAnswer.{PromiseAnswer}
 use Rattle.majority.specs.declared.answers.PromiseAnswer.TheVariants as promise
 use Rattle.majority.specs.Votes.{Vote, HasVote}
 use Rattle.majority.specs.Slot.{Message as SlotMessage, Prepare, Promise, Accept, Accepted, SlotState, with_entry, slot_started, sent_for_prepare, sent_for_accept, votes_for_accept, promise_answered}
-use Rattle.majority.proofs.Agreement.{IsSound, IsAttempt, IsAttemptIfAny, IsTrueMessage, AttemptsAreVoted, AttemptStands, bars_of}
+use Rattle.majority.specs.Agreement.{IsSound, IsAttempt, IsAttemptIfAny, IsTrueMessage, AttemptsAreVoted, AttemptStands, bars_of}
 use Rattle.majority.proofs.Entries.{Contains-elim}
 use Rattle.majority.proofs.Growth.{Grows, IsAttemptIfAny-kept}
 use Rattle.majority.proofs.Lists.{Contains-later}

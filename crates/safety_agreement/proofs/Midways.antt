@@ -4,7 +4,7 @@ use Rattle.std.specs.Prelude.{IsTrue}
 use Rattle.std.specs.List.{AllByRecursion, slice_get}
 use Rattle.majority.specs.Votes.{IsChosenByVotes}
 use Rattle.majority.specs.Slot.{SlotState}
-use Rattle.majority.proofs.Agreement.{IsSound}
+use Rattle.majority.specs.Agreement.{IsSound}
 use Rattle.majority.proofs.Decided.{IsChosenAt-kept}
 use Rattle.msg_wire.specs.Nodes.{number_of, is_sequencer}
 use Rattle.msg_wire.specs.Valid.{IsValidEvent}

@@ -4,13 +4,15 @@ use Rattle.std.proofs.lemmas.Bool.{eqb-true, eqb-false}
 use Rattle.std.proofs.lemmas.List.Elements.{Contains-append_left, Contains-append_right, Contains-push_cases}
 use Rattle.majority.specs.Ballots.{greater_promise}
 use Rattle.majority.specs.Acceptors.{AcceptorState, with_promise, with_vote}
-use Rattle.majority.proofs.Lists.{Contains-here}
+use Rattle.majority.specs.Agreement.{Reaches}
+use Rattle.majority.proofs.Lists.{Contains-here, Contains-cases, Contains-none}
 use Rattle.majority.proofs.Casts.{Reaches-bound}
 use Rattle.majority.proofs.Steps.{not_passed}
 use Rattle.runs.specs.Names.{Entry, Item}
 use Rattle.runs.specs.Names.items
-use Rattle.safety_frame.proofs.NodeKinds.{stored}
-use Rattle.safety_agreement.specs.Acceptors.{IsLast, IsOfItem, HasLast}
+use Rattle.runs.specs.Marks.{EachAfter}
+use Rattle.safety_frame.proofs.Lists.{each_push}
+use Rattle.safety_agreement.specs.Acceptors.{IsLast, IsOfItem, RisesAt, HasLast}
 
 -- ---- one item more
 
@@ -26,7 +28,24 @@ pub record IsApart (slot : ℕ) (item : Item) : Type 0 where
   pub no_promise : (ballot : ℕ) → item ≡ items.Promised slot ballot → ⊥
   pub no_vote : (ballot : ℕ) (entry : Entry) → item ≡ items.Accepted slot ballot entry → ⊥
 
+one_of : (x y : Item) → Contains (x ∷ []) y → x ≡ y
+one_of x y c = elim (Contains-cases x y [] c) [
+  | inl same ↦ same
+  | inr none ↦ absurd (Contains-none y none)
+]
+
 module _ (slot : ℕ) (stored : List Item) where
+  -- ballots don't fall where the item's is at least each that the promise reaches
+  pushed_rises : (item : Item) (own : AcceptorState Entry)
+      → ((later ballot : ℕ) → IsOfItem slot (item ∷ []) (Some later) → Reaches own.promised ballot → ballot ≤ later)
+      → HasLast slot stored own → EachAfter (RisesAt slot) [] (stored ++ item ∷ [])
+  pushed_rises item own above has =
+      each_push (RisesAt slot) [] stored item has.rises
+      (λ ballot later was now. elim was [
+        | inl c ↦ above later ballot now (has.promised ballot c)
+        | inr c ↦ above later ballot now (has.accepted ballot c.0 c.1)
+      ])
+
   of_item_still : (item : Item) (promise : Option ℕ) → IsOfItem slot stored promise → IsOfItem slot (stored ++ item ∷ []) promise
   of_item_still item None is = tt
   of_item_still item (Some ballot) is = elim is [
@@ -60,6 +79,10 @@ module _ (slot : ℕ) (stored : List Item) where
       | inr same ↦ absurd (apart.no_vote ballot entry same)
     ];
     last = last_still item own.accepted apart.no_vote has.last;
+    rises = pushed_rises item own (λ later ballot now reached. elim now [
+      | inl c ↦ absurd (apart.no_promise later (one_of item (items.Promised slot later) c))
+      | inr c ↦ absurd (apart.no_vote later c.0 (one_of item (items.Accepted slot later c.0) c.1))
+    ]) has;
   }
 
   -- of a ballot that the promise doesn't pass
@@ -80,6 +103,13 @@ module _ (slot : ℕ) (stored : List Item) where
           | inr same ↦ absurd (cc)
         ];
         last = last_still item own.accepted (λ other entry same. cc) has.last;
+        rises = pushed_rises item own (λ later other now reached. elim now [
+          | inl c ↦
+              let same = one_of item (items.Promised slot later) c in
+              let equal : ballot ≡ later = cc in
+              omega (arith, equal, below other passes reached)
+          | inr c ↦ let same = one_of item (items.Accepted slot later c.0) c.1 in absurd (cc)
+        ]) has;
       }
 
   pub vote_pushed : (own : AcceptorState Entry) (ballot : ℕ) (entry : Entry) → greater_promise own.promised ballot ≡ None → HasLast slot stored own
@@ -101,6 +131,13 @@ module _ (slot : ℕ) (stored : List Item) where
         ];
         accepted = no_later;
         last = (there_now stored item, no_later);
+        rises = pushed_rises item own (λ later other now reached. elim now [
+          | inl c ↦ let same = one_of item (items.Promised slot later) c in absurd (cc)
+          | inr c ↦
+              let same = one_of item (items.Accepted slot later c.0) c.1 in
+              let equal : ballot ≡ later = cc in
+              omega (arith, equal, below other passes reached)
+        ]) has;
       }
 
   -- of any slot

@@ -6,7 +6,7 @@ use Rattle.majority.specs.Ballots.{greater_promise}
 use Rattle.majority.specs.Acceptors.{AcceptorState}
 use Rattle.majority.specs.Votes.{HasVote}
 use Rattle.majority.specs.Slot.{Message as SlotMessage, Promise, Accepted, SlotState}
-use Rattle.majority.proofs.Agreement.{IsSound, IsLastVote, IsTrueMessage, Reaches, Tells, bars_of}
+use Rattle.majority.specs.Agreement.{IsSound, IsLastVote, IsTrueMessage, Reaches, Tells, bars_of}
 use Rattle.majority.proofs.Heard.{Tells-own}
 use Rattle.majority.proofs.Steps.{not_passed}
 use Rattle.majority.proofs.Lists.{Contains-here, Contains-later}

@@ -5,7 +5,7 @@ use Rattle.std.specs.List.{AllByRecursion, slice_get}
 use Rattle.std.proofs.lemmas.List.Elements.{Contains-append_cases, Contains-append_right}
 use Rattle.majority.specs.Votes.{IsChosenByVotes}
 use Rattle.majority.specs.Slot.{SlotState}
-use Rattle.majority.proofs.Agreement.{IsSound}
+use Rattle.majority.specs.Agreement.{IsSound}
 use Rattle.msg_wire.specs.Nodes.{number_of, is_sequencer, same_node}
 use Rattle.msg_wire.specs.Valid.{IsValidConfig}
 use Rattle.net_model.specs.Pasts.{Past, sent}

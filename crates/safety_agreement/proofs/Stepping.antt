@@ -4,7 +4,7 @@ use Rattle.std.specs.List.{slice_get}
 use Rattle.majority.specs.Votes.{IsChosenByVotes}
 use Rattle.majority.specs.Slot.{SlotState}
 use Rattle.majority.proofs.Decided.{IsChosen-counted}
-use Rattle.majority.proofs.Promises.{most_from_test}
+use Rattle.majority.proofs.Majorities.{most_from_test}
 use Rattle.msg_wire.specs.Nodes.{number_of}
 use Rattle.node_rules.specs.Names.{Event, Message}
 use Rattle.node_rules.specs.Nodes.{Node, with_own}

@@ -5,7 +5,7 @@ use Rattle.majority.specs.Ballots.{greater_promise, is_majority}
 use Rattle.majority.specs.Acceptors.{AcceptorState, with_promise, with_vote}
 use Rattle.majority.specs.Proposers.{Attempt, ballot_for, with_heard, with_sending, value_to_send}
 use Rattle.majority.specs.Slot.{Message as SlotMessage, Prepare, Promise, Accept, Accepted, SlotState}
-use Rattle.majority.proofs.Agreement.{IsSound}
+use Rattle.majority.specs.Agreement.{IsSound}
 use Rattle.majority.proofs.Lists.{Contains-here, Contains-later}
 use Rattle.msg_wire.specs.Nodes.{number_of}
 use Rattle.node_rules.specs.Nodes.{Node, agreed_by}

@@ -1,6 +1,7 @@
 -- What holds of the attempts that stand.
-use Rattle.std.specs.Prelude.{◌≡◌, ℕ, ◌<◌, length, Contains, Some, None}
-use Rattle.majority.proofs.Agreement.{Reaches}
+use Rattle.std.specs.Prelude.{◌≡◌, ℕ, ◌<◌, nat_eq, length, All, Contains, Some, None}
+use Rattle.std.specs.List.{IsDistinct}
+use Rattle.majority.specs.Agreement.{Reaches}
 use Rattle.net_model.specs.Pasts.{Past}
 use Rattle.seq_node.specs.States.{SlotAttempt}
 use Rattle.runs.specs.Names.{Config, Entry}
@@ -28,9 +29,13 @@ AttemptsAreUnvoted cfg past =
     OfAttempts cfg past (λ number a. a.attempt.sending ≡ None
     → (0 < a.attempt.ballot) × ((other : ℕ) → other < cfg.seqs → HasNotAccepted cfg past a.slot a.attempt.ballot other))
 
--- while an entry is being sent, its sequencer and all whose acceptances are counted have voted it
+-- an attempt's sequencer has voted an entry, and all whose acceptances are counted; each counts once
+pub record HasVotes (cfg : Config) (past : Past) (number : ℕ) (a : SlotAttempt) (v : Entry) : Type 0 where
+  pub within : All (λ other. other < cfg.seqs) a.attempt.acceptances
+  pub distinct : IsDistinct nat_eq a.attempt.acceptances
+  pub own : HasAccepted cfg past a.slot a.attempt.ballot v number
+  pub voted : (other : ℕ) → Contains a.attempt.acceptances other → HasAccepted cfg past a.slot a.attempt.ballot v other
+
+-- the entry that is being sent
 abbrev pub AttemptsAreVoted : Config → Past → Type 0
-AttemptsAreVoted cfg past =
-    OfAttempts cfg past (λ number a. (v : Entry) → a.attempt.sending ≡ Some v
-    → HasAccepted cfg past a.slot a.attempt.ballot v number
-    × ((other : ℕ) → Contains a.attempt.acceptances other → HasAccepted cfg past a.slot a.attempt.ballot v other))
+AttemptsAreVoted cfg past = OfAttempts cfg past (λ number a. (v : Entry) → a.attempt.sending ≡ Some v → HasVotes cfg past number a v)

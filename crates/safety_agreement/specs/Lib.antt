@@ -4,3 +4,4 @@ pub mod Votes
 pub mod Attempts
 pub mod Decideds
 pub mod Heard
+pub mod Chosen

@@ -1,7 +1,6 @@
 -- Votes of a run, the sequencers' stored items Accepted: what is cast, promised and chosen at a slot.
-use Rattle.std.specs.Prelude.{◌≡◌, ◌⊎◌, ℕ, suc, ◌<◌, ◌≤◌, ◌%◌, List, Contains, Option, Some, None}
-use Rattle.majority.specs.Ballots.{IsMajority}
-use Rattle.majority.proofs.Agreement.{Reaches}
+use Rattle.std.specs.Prelude.{◌≡◌, ℕ, ◌<◌, ◌%◌, Contains, Option}
+use Rattle.majority.specs.Agreement.{Reaches, IsUnvoted, ToldOf, SafeBy}
 use Rattle.msg_wire.specs.Nodes.{number_of}
 use Rattle.net_model.specs.Pasts.{Past, sent}
 use Rattle.seq_node.specs.States.{acceptor_at}
@@ -14,9 +13,13 @@ use Rattle.runs.specs.Chosen.{HasAccepted}
 abbrev pub bar_at : Config → Past → ℕ → ℕ → Option ℕ
 bar_at cfg past slot number = (acceptor_at (sequencer_after cfg number past).own slot).promised
 
+-- the votes at a slot: what each sequencer voted at each ballot
+abbrev pub Voted : Config → Past → ℕ → ℕ → ℕ → Entry → Type 0
+Voted cfg past slot number ballot entry = HasAccepted cfg past slot ballot entry number
+
 -- the sequencer has no vote at the slot and the ballot
 abbrev pub HasNotAccepted : Config → Past → ℕ → ℕ → ℕ → Type 0
-HasNotAccepted cfg past slot ballot number = (entry : Entry) → HasAccepted cfg past slot ballot entry number → ⊥
+HasNotAccepted cfg past slot ballot number = IsUnvoted (Voted cfg past slot number ballot)
 
 -- ---- votes
 
@@ -40,17 +43,10 @@ AcceptedsAreVotes cfg past =
 
 -- ---- promises
 
--- what a report at the ballot tells: the vote of the greatest ballot up to this one, if there is any below it
-abbrev pub Tells : Config → Past → ℕ → ℕ → ℕ → Option (ℕ × Entry) → Type 0
-Tells cfg past slot ballot number None = (other : ℕ) → other < ballot → HasNotAccepted cfg past slot other number
-Tells cfg past slot ballot number (Some report) =
-    (report.0 ≤ ballot) × HasAccepted cfg past slot report.0 report.1 number
-    × ((other : ℕ) → report.0 < other → other < ballot → HasNotAccepted cfg past slot other number)
-
 -- a Promise binds its sender, and tells truly
 pub record PromiseTells (cfg : Config) (past : Past) (slot ballot number : ℕ) (report : Option (ℕ × Entry)) : Type 0 where
   pub barred : Reaches (bar_at cfg past slot number) ballot
-  pub tells : Tells cfg past slot ballot number report
+  pub tells : ToldOf (Voted cfg past slot number) ballot report
 
 abbrev pub PromisesTell : Config → Past → Type 0
 PromisesTell cfg past =
@@ -59,14 +55,8 @@ PromisesTell cfg past =
 
 -- ---- safety
 
--- the sequencer voted the entry there, or has no vote there and promised a greater ballot
-abbrev pub Supports : Config → Past → ℕ → ℕ → Entry → ℕ → Type 0
-Supports cfg past slot ballot v number =
-    HasAccepted cfg past slot ballot v number ⊎ (HasNotAccepted cfg past slot ballot number × Reaches (bar_at cfg past slot number) (suc ballot))
-
 -- at each ballot below that of a vote, a majority voted the same, or didn't vote and never will
 abbrev pub SafeAtBallot : Config → Past → Type 0
 SafeAtBallot cfg past =
     (slot ballot number : ℕ) (v : Entry) → number < cfg.seqs → HasAccepted cfg past slot ballot v number
-    → (lower : ℕ) → lower < ballot
-    → (quorum : List ℕ) × IsMajority cfg.seqs quorum × ((member : ℕ) → Contains quorum member → Supports cfg past slot lower v member)
+    → SafeBy cfg.seqs (Voted cfg past slot) (bar_at cfg past slot) ballot v

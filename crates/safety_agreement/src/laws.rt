@@ -1,4 +1,5 @@
 //! What holds of every run of a valid cluster: how its sequencers agree, one slot after the other.
+ghost use Rattle.runs.specs.Agreement.{OneValuePerBallot};
 ghost use Rattle.runs.specs.Chosen.{OneIsChosen, KnownIsChosen};
 ghost use Rattle.safety_frame.specs.EveryRun.{OfEveryRun};
 ghost use Rattle.safety_agreement.specs.Acceptors.{AcceptorIsItems};
@@ -7,6 +8,7 @@ ghost use Rattle.safety_agreement.specs.Votes.{OneVotePerBallot, OwnersVoted, Ac
 ghost use Rattle.safety_agreement.specs.Attempts.{AttemptsAreOfTheNextSlot, AttemptsArePromised, AttemptsAreUnvoted, AttemptsAreVoted};
 ghost use Rattle.safety_agreement.specs.Heard.{AttemptsHavePromises};
 ghost use Rattle.safety_agreement.specs.Decideds.{DecidedsAreKnown};
+ghost use Rattle.safety_agreement.specs.Chosen.{AgreedIsChosen};
 
 /// A slot's acceptor has the greatest ballot of its items, and the vote of the greatest ballot that it cast.
 pub fn acceptor_is_items()
@@ -33,7 +35,7 @@ pub fn accepteds_are_votes()
     ensures { OfEveryRun AcceptedsAreVotes }
 {}
 
-/// A Promise binds its sender, and tells the sender's last vote below its ballot.
+/// A Promise binds its sender, and tells the sender's last vote up to its ballot.
 pub fn promises_tell()
     ensures { OfEveryRun PromisesTell }
 {}
@@ -53,12 +55,13 @@ pub fn attempts_are_unvoted()
     ensures { OfEveryRun AttemptsAreUnvoted }
 {}
 
-/// Who counts as having promised an attempt has sent it a Promise of its slot and ballot, and the report of the greatest ballot among these is kept.
+/// Who counts as having promised an attempt, but for its own sequencer, has sent it a Promise of its slot and ballot; each counts once, and of
+/// what these report the vote of the greatest ballot is kept.
 pub fn attempts_have_promises()
     ensures { OfEveryRun AttemptsHavePromises }
 {}
 
-/// While an attempt sends an entry, its sequencer and all whose acceptances are counted have voted it.
+/// While an attempt sends an entry, its sequencer and all whose acceptances are counted have voted it; each counts once.
 pub fn attempts_are_voted()
     ensures { OfEveryRun AttemptsAreVoted }
 {}
@@ -73,9 +76,19 @@ pub fn decideds_are_known()
     ensures { OfEveryRun DecidedsAreKnown }
 {}
 
+/// Of all entries that any node accepted at a slot and a ballot, or was asked to accept, no two differ.
+pub fn one_value_per_ballot()
+    ensures { OfEveryRun OneValuePerBallot }
+{}
+
 /// No slot has two chosen entries.
 pub fn one_is_chosen()
     ensures { OfEveryRun OneIsChosen }
+{}
+
+/// The agreed list, the longest that a sequencer knows, is chosen slot by slot, and what any node knows begins it.
+pub fn agreed_is_chosen()
+    ensures { OfEveryRun AgreedIsChosen }
 {}
 
 /// There is one list of chosen entries, and what any node knows begins it.

@@ -1,4 +1,4 @@
-use Rattle.safety_agreement.proofs.Reading as lemma
+use Rattle.safety_agreement.proofs.Votes as lemma
 use Rattle.safety_agreement.proofs.laws.accepteds_are_votes.Goals as goal
 
 pub returns : goal.returns

@@ -1,4 +1,4 @@
-use Rattle.safety_agreement.proofs.Reading as lemma
+use Rattle.safety_agreement.proofs.Chosen as lemma
 use Rattle.safety_agreement.proofs.laws.one_is_chosen.Goals as goal
 
 pub returns : goal.returns

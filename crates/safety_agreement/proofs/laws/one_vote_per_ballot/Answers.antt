@@ -1,4 +1,4 @@
-use Rattle.safety_agreement.proofs.Reading as lemma
+use Rattle.safety_agreement.proofs.Votes as lemma
 use Rattle.safety_agreement.proofs.laws.one_vote_per_ballot.Goals as goal
 
 pub returns : goal.returns
