@@ -31,10 +31,10 @@ mapped_range f from (suc count) (suc i) =
     let at : from + 1 + i ≡ from + suc i = omega arith in
     subst (λ (k : ℕ). get_or (map f (range_with_len (from + 1) count)) i 0 ≤ f k) at (mapped_range f (from + 1) count i)
 
-lengths_counted : (s : SequencerState) (shard : ℕ) → slice_index (lengths_of s) shard ≤ counted_by s shard
-lengths_counted s shard =
+lengths_counted : (a : Agreement) (s : SequencerState) (shard : ℕ) → slice_index (lengths_of s) shard ≤ counted_by a s shard
+lengths_counted a s shard =
     let at : 0 + shard ≡ shard = omega arith in
-    subst (λ (k : ℕ). slice_index (lengths_of s) shard ≤ counted_by s k) at (mapped_range (counted_by s) 0 6 shard)
+    subst (λ (k : ℕ). slice_index (lengths_of s) shard ≤ counted_by a s k) at (mapped_range (counted_by a s) 0 6 shard)
 
 -- ---- no row lags
 
@@ -77,14 +77,14 @@ cut_fits a due =
     (eq-eqb a.current.number a.current.number refl) (eq-eqb a.rounds a.rounds refl)
     (grant_none (is_last_round a) (nat_lt (a.rounds + 1) a.current.rounds) a.granted (is_not_last a) due)
 
-cut_good : (a : Agreement) (s : SequencerState) → cut_is_due a s ≡ true → IsGoodWhere (counted_by s) a (entries.Cut a.current.number a.rounds)
+cut_good : (a : Agreement) (s : SequencerState) → cut_is_due a s ≡ true → IsGoodWhere (counted_by a s) a (entries.Cut a.current.number a.rounds)
 cut_good a s due =
     let free : Bool = nat_lt (a.rounds + 1) a.current.rounds || is_some a.granted in
     let parts = and_parts (length (lagging_rows a s) == 0) (has_uncovered a s && free) due in (
       cut_fits a (and_parts (has_uncovered a s) free parts.1).1,
       all_weaken (λ (row : Spot). round_end row a.rounds ≤ slice_index (lengths_of s) row.shard)
-          (λ (row : Spot). round_end row a.rounds ≤ counted_by s row.shard) a.current.spots
-          (λ row reaches. omega (arith, reaches, lengths_counted s row.shard))
+          (λ (row : Spot). round_end row a.rounds ≤ counted_by a s row.shard) a.current.spots
+          (λ row reaches. omega (arith, reaches, lengths_counted a s row.shard))
           (none_lag a.current.spots a.rounds (lengths_of s) parts.0),
     )
 
@@ -93,7 +93,7 @@ cut_good a s due =
 module _ (a : Agreement) (s : SequencerState) where
   abbrev MayBeGood : Option Entry → Type 0
   MayBeGood None = Unit {0}
-  MayBeGood (Some entry) = IsGoodWhere (counted_by s) a entry
+  MayBeGood (Some entry) = IsGoodWhere (counted_by a s) a entry
 
   first_good : (x y : Option Entry) → MayBeGood x → MayBeGood y → MayBeGood (option_or x y)
   first_good None y first second = second
@@ -114,7 +114,7 @@ module _ (a : Agreement) (s : SequencerState) where
   filler_good : MayBeGood (filler a.slots s)
   filler_good = on_test MayBeGood (is_touched (acceptor_at s a.slots)) (Some entries.Nothing) None (λ _. tt) (λ _. tt)
 
-  pub value_good : (value : Entry) → value_for a s ≡ Some value → IsGoodWhere (counted_by s) a value
+  pub value_good : (value : Entry) → value_for a s ≡ Some value → IsGoodWhere (counted_by a s) a value
   value_good value is =
       let last : Option Entry = option_or (cut a s) (filler a.slots s) in
       let later : Option Entry = option_or (renewal a s) last in

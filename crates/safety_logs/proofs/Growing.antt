@@ -15,7 +15,7 @@ use Rattle.safety_logs.proofs.Fronts.{front_of, no_longer}
 use Rattle.safety_logs.proofs.Backups.{backup_is_a_prefix}
 
 pub held_grows : HeldGrows
-held_grows cfg e past shard =
+held_grows cfg e past shard valid run =
     let primary = log_grows cfg shard sides.Primary e past in
     let backup = log_grows cfg shard sides.Backup e past in
     let far = no_longer (log_at cfg shard sides.Primary past) (log_at cfg shard sides.Primary (e ∷ past)) primary in
@@ -28,7 +28,7 @@ held_grows cfg e past shard =
         primary = begins_on are.front (log_at cfg shard sides.Primary past) (log_at cfg shard sides.Primary (e ∷ past)) are.primary primary;
         backup = begins_on are.front (log_at cfg shard sides.Backup past) (log_at cfg shard sides.Backup (e ∷ past)) are.backup backup;
       };
-      counts = omega (arith, far, near);
+      counts = λ agreed. omega (arith, far, near);
     }
 
 -- ---- what is common

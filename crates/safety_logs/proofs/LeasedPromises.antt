@@ -33,7 +33,8 @@ all_leased cfg valid =
     })
 
 pub promised_is_leased : OfEveryRun PromisedIsLeased
-promised_is_leased cfg past valid run shard here =
+promised_is_leased cfg past valid run shard sides.Backup here acts = absurd (cc)
+promised_is_leased cfg past valid run shard sides.Primary here acts =
     let node : NodeId = nodes.Shard shard sides.Primary in
     let n = after replicas cfg node past in
     let named = states_named replicas cfg valid past run node refl here in

@@ -18,7 +18,8 @@ use Rattle.safety_frame.proofs.Names.{IsNamed, states_named}
 use Rattle.safety_frame.proofs.StableItems.{known_is}
 use Rattle.safety_frame.proofs.StableParts.{replica_known}
 use Rattle.safety_frame.specs.EveryRun.{OfEveryRun}
-use Rattle.safety_logs.specs.Held.{CoveredIsDurable, PromisedIsDurable}
+use Rattle.safety_logs.specs.Counting.{durable_at}
+use Rattle.safety_logs.specs.Held.{PromisedIsDurable}
 use Rattle.safety_logs.proofs.Promising.{Promises, step_promises}
 
 all_promise : (cfg : Config) (valid : IsValidConfig cfg) (past : Past) → IsPastOf cfg past → OfStates replicas cfg valid (λ past node n. Promises n) past
@@ -57,12 +58,15 @@ module _ (cfg : Config) (valid : IsValidConfig cfg) (past : Past) (run : IsPastO
       (subst (λ (c : Config). covered_locals (agreed_after c n.base.known) shard ≤ n.own.durable) named.0
       (subst (λ (me : NodeId). covered_locals (agreed_after n.base.cfg n.base.known) (number_of me) ≤ n.own.durable) named.1 is.0))
 
-pub covered_is_durable : OfEveryRun CoveredIsDurable
+-- what a primary knows to be covered it takes for durable
+pub covered_is_durable : (cfg : Config) (past : Past) → IsValidConfig cfg → IsPastOf cfg past → (shard : ℕ) → shard < cfg.shards
+    → covered_locals (agreed_at cfg (nodes.Shard shard sides.Primary) past) shard ≤ durable_at cfg shard sides.Primary past
 covered_is_durable cfg past valid run shard here =
     subst (λ (count : ℕ). covered_locals (agreed_at cfg (nodes.Shard shard sides.Primary) past) shard ≤ count) (durable cfg valid past run shard here)
     (covered cfg valid past run shard here)
 
 pub promised_is_durable : OfEveryRun PromisedIsDurable
-promised_is_durable cfg past valid run shard here =
+promised_is_durable cfg past valid run shard sides.Backup here acts = absurd (cc)
+promised_is_durable cfg past valid run shard sides.Primary here acts =
     subst (λ (count : ℕ). (replica_after cfg shard sides.Primary past).own.promised ≤ count) (durable cfg valid past run shard here)
     (is cfg valid past run shard here).1

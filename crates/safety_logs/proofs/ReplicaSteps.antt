@@ -78,6 +78,37 @@ untold n event not_so s entry told =
     false≢true (sym not_so ∙ (ap tells_entry told.comes.same ∙ says))
 
 -- what an entry that is told leaves, before promises are made, and a step in which none is told
+pub record OnBothTurns (n : Node ReplicaState) (event : Event) (P : Turn ReplicaState → Type 0) : Type 0 where
+  pub start : P (started n)
+  pub decides : (from : NodeId) (slot count : ℕ) (entry : Entry) → Comes n event from (whats.Decided slot count entry)
+      → P (decided on_learned from slot count entry (started n))
+  pub promises : (t : Turn ReplicaState) → P t → P (promise_all t)
+  pub others : ((s : Node ReplicaState) (entry : Entry) → IsTold n event s entry → ⊥) → P (replica_step n event)
+
+module _ (n : Node ReplicaState) (event : Event) (P : Turn ReplicaState → Type 0) (both : OnBothTurns n event P) where
+  heard : (from : NodeId) (what : What) → is_decided what ≡ true → Comes n event from what → P (hear from what (started n))
+  heard from (whats.Decided slot count entry) is comes = both.decides from slot count entry comes
+  heard from _ is comes = absurd (cc)
+
+  told_or_not : (m : Message) (b : Bool) → event ≡ events.Deliver m → is_decided m.what ≡ b → P (promise_all (heed hear m (started n))) ⊎ (b ≡ false)
+  told_or_not m true same is =
+      inl (both.promises (heed hear m (started n))
+      (on_test P (is_heeded n.base.cfg n.base.me m) (hear m.from m.what (started n)) (started n)
+      (λ heeded. heard m.from m.what is (record { message = m; same = same; by = refl; says = refl; heeded = heeded })) (λ _. both.start)))
+  told_or_not m false same is = inr refl
+
+pub on_both_turns : (n : Node ReplicaState) (event : Event) (P : Turn ReplicaState → Type 0) → OnBothTurns n event P → P (replica_step n event)
+on_both_turns n (events.Deliver m) P both =
+    elim (told_or_not n (events.Deliver m) P both m (is_decided m.what) refl refl) [
+      | inl told ↦ told
+      | inr not_so ↦ both.others (untold n (events.Deliver m) not_so)
+    ]
+on_both_turns n events.Tick P both = both.others (untold n events.Tick refl)
+on_both_turns n events.Restart P both = both.others (untold n events.Restart refl)
+on_both_turns n (events.Submit by body) P both = both.others (untold n (events.Submit by body) refl)
+on_both_turns n (events.Command command) P both = both.others (untold n (events.Command command) refl)
+
+-- of what a turn leaves of the node
 pub record OnBoth (n : Node ReplicaState) (event : Event) (P : Node ReplicaState → Type 0) : Type 0 where
   pub start : P n
   pub decides : (from : NodeId) (slot count : ℕ) (entry : Entry) → Comes n event from (whats.Decided slot count entry)
@@ -85,25 +116,6 @@ pub record OnBoth (n : Node ReplicaState) (event : Event) (P : Node ReplicaState
   pub promises : (t : Turn ReplicaState) → P t.state → P (promise_all t).state
   pub others : ((s : Node ReplicaState) (entry : Entry) → IsTold n event s entry → ⊥) → P (replica_step n event).state
 
-module _ (n : Node ReplicaState) (event : Event) (P : Node ReplicaState → Type 0) (both : OnBoth n event P) where
-  heard : (from : NodeId) (what : What) → is_decided what ≡ true → Comes n event from what → P (hear from what (started n)).state
-  heard from (whats.Decided slot count entry) is comes = both.decides from slot count entry comes
-  heard from _ is comes = absurd (cc)
-
-  told_or_not : (m : Message) (b : Bool) → event ≡ events.Deliver m → is_decided m.what ≡ b → P (promise_all (heed hear m (started n))).state ⊎ (b ≡ false)
-  told_or_not m true same is =
-      inl (both.promises (heed hear m (started n))
-      (on_test (λ (t : Turn ReplicaState). P t.state) (is_heeded n.base.cfg n.base.me m) (hear m.from m.what (started n)) (started n)
-      (λ heeded. heard m.from m.what is (record { message = m; same = same; by = refl; says = refl; heeded = heeded })) (λ _. both.start)))
-  told_or_not m false same is = inr refl
-
 pub on_both : (n : Node ReplicaState) (event : Event) (P : Node ReplicaState → Type 0) → OnBoth n event P → P (replica_step n event).state
-on_both n (events.Deliver m) P both =
-    elim (told_or_not n (events.Deliver m) P both m (is_decided m.what) refl refl) [
-      | inl told ↦ told
-      | inr not_so ↦ both.others (untold n (events.Deliver m) not_so)
-    ]
-on_both n events.Tick P both = both.others (untold n events.Tick refl)
-on_both n events.Restart P both = both.others (untold n events.Restart refl)
-on_both n (events.Submit by body) P both = both.others (untold n (events.Submit by body) refl)
-on_both n (events.Command command) P both = both.others (untold n (events.Command command) refl)
+on_both n event P both =
+    on_both_turns n event (λ t. P t.state) (record { start = both.start; decides = both.decides; promises = both.promises; others = both.others })

@@ -20,7 +20,7 @@ use Rattle.safety_logs.proofs.Backups.{backup_is_a_prefix}
 use Rattle.safety_logs.proofs.Growing.{common_of, reach_of}
 
 -- what holds of all that was sent holds of each message as it is sent
-as_sent : (cfg : Config) (T : Past → NodeId → What → Type 0)
+pub as_sent : (cfg : Config) (T : Past → NodeId → What → Type 0)
     → ((past : Past) → IsPastOf cfg past → (m : Message) → Contains (sent past) m → T past m.from m.what) → (past : Past) → IsPastOf cfg past → AsSent T past
 as_sent cfg T each [] run = tt
 as_sent cfg T each (e ∷ past) run = (

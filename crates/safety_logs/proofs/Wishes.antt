@@ -12,13 +12,12 @@ use Rattle.net_model.specs.Pasts.{Past}
 use Rattle.node_rules.specs.Nodes.{Node, agreed_by, knowing}
 use Rattle.node_rules.proofs.Lists.{on_test, all_weaken}
 use Rattle.node_rules.proofs.Places.{Comes}
-use Rattle.seq_node.specs.States.{SlotAttempt, SequencerState, with_report, with_attempt, with_idle}
+use Rattle.seq_node.specs.States.{SlotAttempt, SequencerState, with_attempt, with_idle}
 use Rattle.seq_node.specs.Learning.{wish_granted, attempt_over}
 use Rattle.seq_node.proofs.Limits.{slots_known}
 use Rattle.seq_node.proofs.Places.{Begins, Waits, is_late, is_lower, is_waiting, Stores, promised, accepted, begins_at_once, begins, sends, Changes, waits, hears, reports, wishes, idles, over}
 use Rattle.runs.specs.Names.{NodeId, Config, Entry, Item, Event, HistoryEntry}
 use Rattle.runs.specs.Names.nodes
-use Rattle.runs.specs.Names.sides
 use Rattle.runs.specs.Names.entries
 use Rattle.runs.specs.Names.whats
 use Rattle.runs.specs.Runs.{IsPastOf}
@@ -27,6 +26,7 @@ use Rattle.safety_frame.proofs.NodeKinds.{after, sequencers}
 use Rattle.safety_frame.proofs.Inductions.{OfStates, every_state}
 use Rattle.safety_frame.proofs.Names.{states_named}
 use Rattle.safety_frame.specs.EveryRun.{OfEveryRun}
+use Rattle.safety_agreement.proofs.Standing.{report_leaves}
 use Rattle.safety_logs.specs.Counting.{counted, counted_by}
 use Rattle.safety_logs.specs.Cuts.{IsGoodWhere, IsGoodAttempt, WishesAreGood}
 use Rattle.safety_logs.proofs.GoodValues.{value_good}
@@ -52,7 +52,7 @@ attempt_later : (counts more : ℕ → ℕ) (a : Agreement) (next : ℕ) (attemp
 attempt_later counts more a next None grows good = tt
 attempt_later counts more a next (Some b) grows good = (good.0, good_later counts more a b.attempt.wish grows good.1)
 
--- ---- a learned entry ends an attempt, and a report leaves it
+-- ---- a learned entry ends an attempt
 
 over_ends : (attempt : Option SlotAttempt) (slot : ℕ) (entry : Entry) (s : SequencerState) → s.attempt ≡ attempt
     → ((a : SlotAttempt) → attempt ≡ Some a → a.slot ≡ slot)
@@ -63,13 +63,6 @@ over_ends (Some a) slot entry s here next =
     (λ _. on_test (λ (x : SequencerState). x.attempt ≡ None) (is_entry a.wished entry) (record (with_attempt None s) { wishes = drop 1 s.wishes })
     (with_attempt None s) (λ _. refl) (λ _. refl))
     (λ other. absurd (true≢false (sym (eq-eqb a.slot slot (next a refl)) ∙ other)))
-
-report_leaves : (from : NodeId) (len : ℕ) (s : SequencerState) → s.attempt ≡ (with_report from len s).attempt
-report_leaves (nodes.Shard shard sides.Primary) len s = refl
-report_leaves (nodes.Shard shard sides.Backup) len s = refl
-report_leaves (nodes.Seq number) len s = refl
-report_leaves (nodes.Client number) len s = refl
-report_leaves (nodes.Consumer number) len s = refl
 
 -- ---- a sequencer's step
 
@@ -83,7 +76,7 @@ module _ (primary backup : ℕ → ℕ) where
   begun_good : (s : Node SequencerState) (ballot : ℕ) (value : Entry) → Begins s ballot value → Keeps primary backup s.own
       → IsGoodWhere counts (agreed_by s.base) value
   begun_good s ballot value why keeps =
-      good_later (counted_by s.own) counts (agreed_by s.base) value (λ shard. omega (arith, keeps.0 shard, keeps.1 shard))
+      good_later (counted_by (agreed_by s.base) s.own) counts (agreed_by s.base) value (λ shard. omega (arith, keeps.0 shard, keeps.1 shard))
       (value_good (agreed_by s.base) s.own value why.value_is)
 
   stores_good : (n : Node SequencerState) (event : Event) (s : Node SequencerState) (item : Item) (own : SequencerState) → Stores n event s item own
@@ -110,7 +103,7 @@ module _ (primary backup : ℕ → ℕ) where
   changes_good n event s _ (hears a replica value stands why sending) good =
       subst (IsGoodAttempt counts (agreed_by s.base) (length s.base.known)) stands good
   changes_good n event s _ (reports from len comes) good =
-      subst (IsGoodAttempt counts (agreed_by s.base) (length s.base.known)) (report_leaves from len s.own) good
+      subst (IsGoodAttempt counts (agreed_by s.base) (length s.base.known)) (sym (report_leaves from len s.own)) good
   changes_good n event s _ (wishes command why room) good = good
   changes_good n event s _ (idles why) good = good
 
@@ -147,12 +140,12 @@ module _ (primary backup : ℕ → ℕ) where
 
 module _ (cfg : Config) (valid : IsValidConfig cfg) where
   abbrev WishesIn : Past → Node SequencerState → Type 0
-  WishesIn past n = IsGoodAttempt (λ shard. counted cfg shard past) (agreed_by n.base) (length n.base.known) n.own.attempt
+  WishesIn past n = IsGoodAttempt (λ shard. counted cfg (agreed_by n.base) shard past) (agreed_by n.base) (length n.base.known) n.own.attempt
 
-  later_good : (e : HistoryEntry) (past : Past) (n : Node SequencerState) → WishesIn past n → WishesIn (e ∷ past) n
-  later_good e past n =
-      attempt_later (λ shard. counted cfg shard past) (λ shard. counted cfg shard (e ∷ past)) (agreed_by n.base) (length n.base.known) n.own.attempt
-      (λ shard. (held_grows cfg e past shard).counts)
+  later_good : (e : HistoryEntry) (past : Past) (n : Node SequencerState) → IsPastOf cfg (e ∷ past) → WishesIn past n → WishesIn (e ∷ past) n
+  later_good e past n run =
+      attempt_later (λ shard. counted cfg (agreed_by n.base) shard past) (λ shard. counted cfg (agreed_by n.base) shard (e ∷ past)) (agreed_by n.base)
+      (length n.base.known) n.own.attempt (λ shard. (held_grows cfg e past shard valid run).counts (agreed_by n.base))
 
   all_wishes : (past : Past) → IsPastOf cfg past → OfStates sequencers cfg valid (λ past node n. WishesIn past n) past
   all_wishes =
@@ -161,15 +154,15 @@ module _ (cfg : Config) (valid : IsValidConfig cfg) where
         starts = λ node one here. tt;
         steps = λ e past run one before.
             let n = after sequencers cfg e.node past in
-            later_good e past (sequencers.step n e.event).state
+            later_good e past (sequencers.step n e.event).state run
             (step_good (primaries_in cfg valid past) (backups_in cfg valid past) n e.event (reports_told cfg valid e past run n)
             (kept_reports cfg valid past run.1 e.node one run.0.within) (before e.node one run.0.within));
-        stays = λ e past node n run other good. later_good e past n good;
+        stays = λ e past node n run other good. later_good e past n run good;
       })
 
 pub wishes_are_good : OfEveryRun WishesAreGood
 wishes_are_good cfg past valid run number here =
     let n = after sequencers cfg (nodes.Seq number) past in
     let named = states_named sequencers cfg valid past run (nodes.Seq number) refl here in
-    subst (λ (c : Config). IsGoodAttempt (λ shard. counted cfg shard past) (agreed_after c n.base.known) (length n.base.known) n.own.attempt) named.0
+    subst (λ (c : Config). IsGoodAttempt (λ shard. counted cfg (agreed_after c n.base.known) shard past) (agreed_after c n.base.known) (length n.base.known) n.own.attempt) named.0
     (all_wishes cfg valid past run (nodes.Seq number) refl here)

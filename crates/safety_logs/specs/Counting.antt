@@ -1,11 +1,11 @@
 -- The log of a shard that counts, and how far its replicas have it: what is said of logs above is said through these.
 use Rattle.std.specs.Prelude.{◌≡◌, ℕ, ◌≤◌, min, List, length, slice_index}
 use Rattle.cut_core.specs.Agreements.{Agreement}
+pub use Rattle.node_rules.specs.Acting.{acting}
 use Rattle.net_model.specs.Pasts.{Past}
 use Rattle.seq_node.specs.States.{SequencerState}
 use Rattle.shard_node.specs.States.{durable_locals}
-use Rattle.runs.specs.Names.{NodeId, Side, Config, Record}
-use Rattle.runs.specs.Names.nodes
+use Rattle.runs.specs.Names.{Side, Config, Record}
 use Rattle.runs.specs.Names.sides
 use Rattle.runs.specs.Kinds.{replica_after}
 use Rattle.runs.specs.Known.{log_at}
@@ -27,16 +27,12 @@ pub record IsCommon (cfg : Config) (past : Past) (shard len : ℕ) : Type 0 wher
   pub common : AreCommon cfg past shard len
   pub longest : (more : ℕ) → AreCommon cfg past shard more → more ≤ len
 
--- the replica of a shard that takes what clients append, is filled up, and promises
-abbrev pub acting : Agreement → ℕ → NodeId
-acting agreed shard = nodes.Shard shard sides.Primary
+-- how far a shard counts for a cut, by what is agreed then, and how far it does by the reports that a sequencer keeps
+abbrev pub counted : Config → Agreement → ℕ → Past → ℕ
+counted cfg agreed shard past = min (length (log_at cfg shard sides.Primary past)) (length (log_at cfg shard sides.Backup past))
 
--- how far a shard counts for a cut, and how far it does by the reports that a sequencer keeps
-abbrev pub counted : Config → ℕ → Past → ℕ
-counted cfg shard past = min (length (log_at cfg shard sides.Primary past)) (length (log_at cfg shard sides.Backup past))
-
-abbrev pub counted_by : SequencerState → ℕ → ℕ
-counted_by s shard = min (slice_index s.primaries shard) (slice_index s.backups shard)
+abbrev pub counted_by : Agreement → SequencerState → ℕ → ℕ
+counted_by agreed s shard = min (slice_index s.primaries shard) (slice_index s.backups shard)
 
 -- how many records of its log a replica takes to be durable
 abbrev pub durable_at : Config → ℕ → Side → Past → ℕ

@@ -29,7 +29,7 @@ IsGoodWhere counts agreed (entries.Remove window shard) = Unit {0}
 
 -- after these entries
 abbrev pub IsGoodAfter : Config → Past → List Entry → Entry → Type 0
-IsGoodAfter cfg past known entry = IsGoodWhere (λ shard. counted cfg shard past) (agreed_after cfg known) entry
+IsGoodAfter cfg past known entry = IsGoodWhere (λ shard. counted cfg (agreed_after cfg known) shard past) (agreed_after cfg known) entry
 
 -- at a slot, after what is agreed below it
 pub record IsGoodAt (cfg : Config) (past : Past) (slot : ℕ) (entry : Entry) : Type 0 where
@@ -45,7 +45,7 @@ IsGoodAttempt counts agreed next (Some a) = (a.slot ≡ next) × IsGoodWhere cou
 
 abbrev pub HasGoodAttempt : Config → Past → Node SequencerState → Type 0
 HasGoodAttempt cfg past n =
-    IsGoodAttempt (λ shard. counted cfg shard past) (agreed_after cfg n.base.known) (length n.base.known) n.own.attempt
+    IsGoodAttempt (λ shard. counted cfg (agreed_after cfg n.base.known) shard past) (agreed_after cfg n.base.known) (length n.base.known) n.own.attempt
 
 abbrev pub WishesAreGood : Config → Past → Type 0
 WishesAreGood cfg past = (number : ℕ) → number < cfg.seqs → HasGoodAttempt cfg past (sequencer_after cfg number past)
