@@ -1,0 +1,17 @@
+pub mod Lists
+pub mod Firsts
+pub mod Notices
+pub mod Told
+pub mod ReplicaTurns
+pub mod ReplicaNotices
+pub mod ConsumerTurns
+pub mod ConsumerNotices
+pub mod Others
+pub mod Entries
+pub mod TrueNotices
+pub mod Shown
+pub mod Positions
+pub mod ReplicaMarks
+pub mod MarksTell
+pub mod Speculations
+pub mod Acks

@@ -1,0 +1,4 @@
+pub mod Removals
+pub mod MarkClauses
+pub mod Shown
+pub mod Acks
