@@ -8,3 +8,4 @@ pub mod Stages
 pub mod Turns
 pub mod WithinRuns
 pub mod Happening
+pub mod Safe

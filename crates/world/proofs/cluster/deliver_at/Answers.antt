@@ -4,12 +4,8 @@ use Rattle.std.proofs.lemmas.Result.{on_ok_weaker}
 use Rattle.world.proofs.Lists.{read_there}
 use Rattle.world.proofs.cluster.deliver_at.Goals as goal
 
-pub returns-clause-gives : goal.returns-clause-gives
-returns-clause-gives c =
+pub returns : goal.returns
+returns c =
     let there = read_there c.args.made.now.items c.args.place c.index_mut-node.result.now _ c.requires.there c.index_mut-node.ensures.value in
-    on_ok_weaker c.deliver_into.result (λ e. rw there e) c.deliver_into.ensures.gives
-
-pub returns-clause-leaves : goal.returns-clause-leaves
-returns-clause-leaves c =
-    let there = read_there c.args.made.now.items c.args.place c.index_mut-node.result.now _ c.requires.there c.index_mut-node.ensures.value in
-    on_ok_weaker c.deliver_into.result (λ e. rw there (ap (slice_set c.args.made.now.items c.args.place) e)) c.deliver_into.ensures.leaves
+    let leaves = on_ok_weaker c.deliver_into.result (λ e. rw there (ap (slice_set c.args.made.now.items c.args.place) e)) c.deliver_into.ensures.leaves in
+    record { gives = on_ok_weaker c.deliver_into.result (λ e. rw there e) c.deliver_into.ensures.gives; leaves = leaves; valid = c.deliver_into.ensures.valid }

@@ -1,6 +1,6 @@
 use Rattle.std.proofs.Common.{refl}
 use Rattle.client_node.specs.States.{reach}
-use Rattle.world.proofs.laws.first_scripts_are_played.Goals as goal
+use Rattle.world.proofs.first_scripts.first_scripts_are_played.Goals as goal
 
 pub returns : goal.returns
 unfolding reach
