@@ -5,10 +5,10 @@ ghost use Rattle.runs.specs.Marks.{acks};
 ghost use Rattle.report_text.specs.Clients.{client_line, ack_line};
 ghost use Rattle.report_text.specs.Submitting.{nothing_submitted, with_own_entry, submitted_lines};
 
-use crate::text::put_counted;
+use crate::text::{Put, put_counted};
 use msg_wire::Mark;
 use net_model::EntryRef;
-use quota_table::{Bytes, OutOfMemory};
+use quota_table::Bytes;
 use record_codec::Body;
 use std::alloc::Global;
 use std::marker::Model;
@@ -43,7 +43,7 @@ impl<'a> ClientMarks<'a> {
     }
 
     /// One more entry.
-    pub fn take(&mut self, entry: &EntryRef<'a>) -> Result<(), OutOfMemory>
+    pub fn take(&mut self, entry: &EntryRef<'a>) -> Put
         ensures { OnOk result (self.new ≡ with_own_entry self.old entry.now) }
     {
         if let Some(body) = entry.body() {
@@ -53,7 +53,7 @@ impl<'a> ClientMarks<'a> {
     }
 
     /// Puts its lines at the end.
-    pub fn write(&self, number: u64, text: &mut Bytes) -> Result<(), OutOfMemory>
+    pub fn write(&self, number: u64, text: &mut Bytes) -> Put
         ensures { OnOk result (text.new ≡ text.old ++ submitted_lines number self.now) }
     {
         put_client(text, number, self.submitted.len(), self.acked.len())?;
@@ -65,7 +65,7 @@ impl<'a> ClientMarks<'a> {
 }
 
 /// Puts the acknowledgements among the marks at the end.
-fn put_acks(acked: &mut Vec<(u64, u64)>, marks: &[Mark]) -> Result<(), OutOfMemory>
+fn put_acks(acked: &mut Vec<(u64, u64)>, marks: &[Mark]) -> Put
     ensures { OnOk result (acked.new.items ≡ acked.old.items ++ acks marks.now) }
 {
     for mark in marks {
@@ -77,12 +77,7 @@ fn put_acks(acked: &mut Vec<(u64, u64)>, marks: &[Mark]) -> Result<(), OutOfMemo
 }
 
 #[tactic(auto, using(std::proofs::Common::append_assoc), unfolding(crate::specs::Clients::client_line))]
-fn put_client(
-    text: &mut Bytes,
-    number: u64,
-    submitted: usize,
-    acked: usize,
-) -> Result<(), OutOfMemory>
+fn put_client(text: &mut Bytes, number: u64, submitted: usize, acked: usize) -> Put
     ensures { OnOk result (text.new ≡ text.old ++ client_line number submitted acked) }
 {
     put_counted(text, b"client c", number)?;
@@ -92,7 +87,7 @@ fn put_client(
 }
 
 #[tactic(auto, using(std::proofs::Common::append_assoc), unfolding(crate::specs::Clients::ack_line))]
-fn put_ack(text: &mut Bytes, number: u64, of_client: u64, position: u64) -> Result<(), OutOfMemory>
+fn put_ack(text: &mut Bytes, number: u64, of_client: u64, position: u64) -> Put
     ensures { OnOk result (text.new ≡ text.old ++ ack_line number (of_client, position)) }
 {
     put_counted(text, b"ack c", number)?;

@@ -6,9 +6,9 @@ ghost use Rattle.app_law.specs.Folds.{shown_after};
 ghost use Rattle.report_text.specs.Consumers.{consumer_line, notice_line, out_line, state_line};
 ghost use Rattle.report_text.specs.Consuming.{list_counts, other_counts};
 
-use crate::text::put_counted;
+use crate::text::{Put, put_counted};
 use app_law::{AnyApp, App};
-use quota_table::{Bytes, OutOfMemory};
+use quota_table::Bytes;
 use record_codec::{AppKind, Record, Shown};
 
 /// The shown state of an application after a log.
@@ -34,7 +34,7 @@ pub struct Counts {
 
 /// Puts a consumer's own line at the end.
 #[tactic(auto, using(std::proofs::Common::append_assoc), unfolding(crate::specs::Consumers::consumer_line))]
-pub fn put_counts(text: &mut Bytes, number: u64, counts: &Counts) -> Result<(), OutOfMemory>
+pub fn put_counts(text: &mut Bytes, number: u64, counts: &Counts) -> Put
     ensures { OnOk result (text.new ≡ text.old ++ consumer_line number counts.now.confirmed counts.now.applied counts.now.early counts.now.undone counts.now.noticed) }
 {
     put_list_counts(text, number, counts.confirmed, counts.applied)?;
@@ -42,12 +42,7 @@ pub fn put_counts(text: &mut Bytes, number: u64, counts: &Counts) -> Result<(), 
 }
 
 #[tactic(auto, using(std::proofs::Common::append_assoc))]
-fn put_list_counts(
-    text: &mut Bytes,
-    number: u64,
-    confirmed: usize,
-    applied: usize,
-) -> Result<(), OutOfMemory>
+fn put_list_counts(text: &mut Bytes, number: u64, confirmed: usize, applied: usize) -> Put
     ensures { OnOk result (text.new ≡ text.old ++ list_counts number confirmed applied) }
 {
     put_counted(text, b"consumer k", number)?;
@@ -56,12 +51,7 @@ fn put_list_counts(
 }
 
 #[tactic(auto, using(std::proofs::Common::append_assoc))]
-fn put_other_counts(
-    text: &mut Bytes,
-    early: usize,
-    undone: usize,
-    noticed: usize,
-) -> Result<(), OutOfMemory>
+fn put_other_counts(text: &mut Bytes, early: usize, undone: usize, noticed: usize) -> Put
     ensures { OnOk result (text.new ≡ text.old ++ other_counts early undone noticed) }
 {
     put_counted(text, b" early ", early as u64)?;
@@ -71,7 +61,7 @@ fn put_other_counts(
 }
 
 /// Puts the line of each notice at the end.
-pub fn put_notices(text: &mut Bytes, number: u64, notices: &[u64]) -> Result<(), OutOfMemory>
+pub fn put_notices(text: &mut Bytes, number: u64, notices: &[u64]) -> Put
     ensures { OnOk result (text.new ≡ text.old ++ flat_map (notice_line number) notices.now) }
 {
     for first in notices {
@@ -81,7 +71,7 @@ pub fn put_notices(text: &mut Bytes, number: u64, notices: &[u64]) -> Result<(),
 }
 
 #[tactic(auto, using(std::proofs::Common::append_assoc), unfolding(crate::specs::Consumers::notice_line))]
-fn put_notice(text: &mut Bytes, number: u64, first: u64) -> Result<(), OutOfMemory>
+fn put_notice(text: &mut Bytes, number: u64, first: u64) -> Put
     ensures { OnOk result (text.new ≡ text.old ++ notice_line number first) }
 {
     put_counted(text, b"notice k", number)?;
@@ -91,7 +81,7 @@ fn put_notice(text: &mut Bytes, number: u64, first: u64) -> Result<(), OutOfMemo
 
 /// Puts the line of a piece of output at the end.
 #[tactic(auto, using(std::proofs::Common::append_assoc), unfolding(crate::specs::Consumers::out_line))]
-pub fn put_output(text: &mut Bytes, number: u64, bytes: &Bytes) -> Result<(), OutOfMemory>
+pub fn put_output(text: &mut Bytes, number: u64, bytes: &Bytes) -> Put
     ensures { OnOk result (text.new ≡ text.old ++ out_line number bytes.now) }
 {
     put_counted(text, b"out k", number)?;
@@ -101,7 +91,7 @@ pub fn put_output(text: &mut Bytes, number: u64, bytes: &Bytes) -> Result<(), Ou
 
 /// Puts the line of the shown state at the end.
 #[tactic(auto, using(std::proofs::Common::append_assoc), unfolding(crate::specs::Consumers::state_line))]
-pub fn put_state(text: &mut Bytes, number: u64, shown: &Shown) -> Result<(), OutOfMemory>
+pub fn put_state(text: &mut Bytes, number: u64, shown: &Shown) -> Put
     ensures { OnOk result (text.new ≡ text.old ++ state_line number shown.now) }
 {
     put_counted(text, b"state k", number)?;

@@ -5,8 +5,9 @@ ghost use Rattle.report_text.specs.Consuming.{nothing_consumed, is_applied_befor
 
 use crate::by_number::ByNumber;
 use crate::consumer_lines::{Counts, put_counts, put_notices, put_output, put_state, shown_after};
+use crate::text::Put;
 use msg_wire::{Config, Mark};
-use quota_table::{Bytes, OutOfMemory};
+use quota_table::Bytes;
 use record_codec::Record;
 use std::alloc::Global;
 use std::marker::Model;
@@ -62,7 +63,7 @@ impl<'a> ConsumerMarks<'a> {
     }
 
     /// The marks of one more entry of the consumer of this number.
-    pub fn take_all(&mut self, number: u64, marks: &'a [Mark]) -> Result<(), OutOfMemory>
+    pub fn take_all(&mut self, number: u64, marks: &'a [Mark]) -> Put
         ensures { OnOk result (self.new ≡ with_own_marks number self.old marks.now) }
     {
         let start = self.marks.len();
@@ -73,7 +74,7 @@ impl<'a> ConsumerMarks<'a> {
     }
 
     /// One more mark, of an entry whose marks begin at `start`.
-    fn take(&mut self, number: u64, start: usize, mark: &'a Mark) -> Result<(), OutOfMemory>
+    fn take(&mut self, number: u64, start: usize, mark: &'a Mark) -> Put
         ensures { OnOk result (self.new ≡ with_own_mark number start self.old mark.now) }
     {
         let place = self.marks.len();
@@ -108,7 +109,7 @@ impl<'a> ConsumerMarks<'a> {
     }
 
     /// Puts its lines at the end.
-    pub fn write(&self, cfg: &Config, number: u64, text: &mut Bytes) -> Result<(), OutOfMemory>
+    pub fn write(&self, cfg: &Config, number: u64, text: &mut Bytes) -> Put
         ensures { OnOk result (text.new ≡ text.old ++ consumed_lines cfg.now number self.now) }
     {
         let log = self.log.as_slice();

@@ -15,7 +15,7 @@ use crate::clients::ClientMarks;
 use crate::consumers::ConsumerMarks;
 use crate::positions::ConfirmedLog;
 use crate::slots::ToldSlots;
-use crate::text::put_counted;
+use crate::text::{Put, put_counted};
 use msg_wire::{Config, Mark};
 use net_model::{EntryRef, History};
 use quota_table::{Bytes, OutOfMemory};
@@ -87,7 +87,7 @@ fn clients<'a>(alloc: Global, count: usize) -> Result<Vec<ClientMarks<'a>>, OutO
 
 impl<'a> Gathered<'a> {
     /// The entry at an index, where there is one.
-    fn take_at(&mut self, history: &'a History, index: usize) -> Result<(), OutOfMemory>
+    fn take_at(&mut self, history: &'a History, index: usize) -> Put
         ensures { OnOk result (self.new ≡ option_map_or (with_entry self.old) (slice_get history.now index) self.old) }
     {
         match history.get(index) {
@@ -97,7 +97,7 @@ impl<'a> Gathered<'a> {
     }
 
     /// One more entry: what its node showed and was given.
-    fn take(&mut self, entry: &EntryRef<'a>) -> Result<(), OutOfMemory>
+    fn take(&mut self, entry: &EntryRef<'a>) -> Put
         ensures { OnOk result (self.new ≡ with_entry self.old entry.now) }
     {
         match entry.node() {
@@ -110,13 +110,7 @@ impl<'a> Gathered<'a> {
     }
 
     /// Puts the report of all that was gathered, of this many entries, at the end.
-    pub fn write(
-        &self,
-        alloc: Global,
-        cfg: &Config,
-        entries: usize,
-        text: &mut Bytes,
-    ) -> Result<(), OutOfMemory>
+    pub fn write(&self, alloc: Global, cfg: &Config, entries: usize, text: &mut Bytes) -> Put
         requires cluster { IsValidConfig cfg.now }
         requires valid { AllByRecursion IsValidTold self.now.told }
         ensures { OnOk result (text.new ≡ text.old ++ gathered_lines cfg.now entries self.now) }
@@ -130,11 +124,7 @@ impl<'a> Gathered<'a> {
     }
 }
 
-fn take_consumer<'a>(
-    consumers: &mut Vec<ConsumerMarks<'a>>,
-    number: u8,
-    marks: &'a [Mark],
-) -> Result<(), OutOfMemory>
+fn take_consumer<'a>(consumers: &mut Vec<ConsumerMarks<'a>>, number: u8, marks: &'a [Mark]) -> Put
     ensures { OnOk result (consumers.new.items ≡ changed_at (λ c. with_own_marks number c marks.now) consumers.old.items number) }
 {
     match consumers.get_mut(usize::from(number)) {
@@ -143,11 +133,7 @@ fn take_consumer<'a>(
     }
 }
 
-fn take_client<'a>(
-    clients: &mut Vec<ClientMarks<'a>>,
-    number: usize,
-    entry: &EntryRef<'a>,
-) -> Result<(), OutOfMemory>
+fn take_client<'a>(clients: &mut Vec<ClientMarks<'a>>, number: usize, entry: &EntryRef<'a>) -> Put
     ensures { OnOk result (clients.new.items ≡ changed_at (λ c. with_own_entry c entry.now) clients.old.items number) }
 {
     match clients.get_mut(number) {
@@ -156,11 +142,7 @@ fn take_client<'a>(
     }
 }
 
-fn write_consumers(
-    cfg: &Config,
-    consumers: &[ConsumerMarks],
-    text: &mut Bytes,
-) -> Result<(), OutOfMemory>
+fn write_consumers(cfg: &Config, consumers: &[ConsumerMarks], text: &mut Bytes) -> Put
     ensures { OnOk result (text.new ≡ text.old ++ numbered_lines (consumed_lines cfg.now) 0 consumers.now) }
 {
     for (number, consumer) in consumers.iter().enumerate() {
@@ -169,7 +151,7 @@ fn write_consumers(
     Ok(())
 }
 
-fn write_clients(clients: &[ClientMarks], text: &mut Bytes) -> Result<(), OutOfMemory>
+fn write_clients(clients: &[ClientMarks], text: &mut Bytes) -> Put
     ensures { OnOk result (text.new ≡ text.old ++ numbered_lines submitted_lines 0 clients.now) }
 {
     for (number, client) in clients.iter().enumerate() {
@@ -179,7 +161,7 @@ fn write_clients(clients: &[ClientMarks], text: &mut Bytes) -> Result<(), OutOfM
 }
 
 #[tactic(auto, using(std::proofs::Common::append_assoc), unfolding(crate::specs::Report::head_lines))]
-fn put_head(text: &mut Bytes, entries: usize) -> Result<(), OutOfMemory>
+fn put_head(text: &mut Bytes, entries: usize) -> Put
     ensures { OnOk result (text.new ≡ text.old ++ head_lines entries) }
 {
     put_counted(text, b"belfast 1\nentries ", entries as u64)?;
@@ -187,7 +169,7 @@ fn put_head(text: &mut Bytes, entries: usize) -> Result<(), OutOfMemory>
 }
 
 #[tactic(auto, using(std::proofs::Common::append_assoc), unfolding(crate::specs::Positions::differ_line))]
-fn put_differing(text: &mut Bytes, count: usize) -> Result<(), OutOfMemory>
+fn put_differing(text: &mut Bytes, count: usize) -> Put
     ensures { OnOk result (text.new ≡ text.old ++ differ_line count) }
 {
     put_counted(text, b"differ ", count as u64)?;

@@ -7,7 +7,7 @@ ghost use Rattle.report_text.specs.Positions.{same_record, log_line};
 ghost use Rattle.report_text.specs.Confirming.{with_confirmed, with_marks, confirmed_lines, differing};
 
 use crate::by_number::ByNumber;
-use crate::text::put_counted;
+use crate::text::{Put, put_counted};
 use msg_wire::Mark;
 use quota_table::{Bytes, OutOfMemory};
 use record_codec::Record;
@@ -49,7 +49,7 @@ impl<'a> ConfirmedLog<'a> {
     }
 
     /// More marks were shown.
-    pub fn take_all(&mut self, marks: &'a [Mark]) -> Result<(), OutOfMemory>
+    pub fn take_all(&mut self, marks: &'a [Mark]) -> Put
         ensures { OnOk result (self.new ≡ with_marks self.old marks.now) }
     {
         for mark in marks {
@@ -61,7 +61,7 @@ impl<'a> ConfirmedLog<'a> {
     }
 
     /// A record was confirmed. What stays as it was is not written again.
-    fn take(&mut self, position: u64, rec: &'a Record) -> Result<(), OutOfMemory>
+    fn take(&mut self, position: u64, rec: &'a Record) -> Put
         ensures { OnOk result (self.new ≡ with_confirmed self.old position rec.now) }
     {
         let Some(known) = self.positions.get(position) else {
@@ -86,14 +86,14 @@ impl<'a> ConfirmedLog<'a> {
         )
     }
 
-    fn put(&mut self, position: u64, confirmed: Confirmed<'a>) -> Result<(), OutOfMemory>
+    fn put(&mut self, position: u64, confirmed: Confirmed<'a>) -> Put
         ensures { OnOk result (self.new ≡ insert_entry nat_cmp self.old position (confirmed.entry.first.now, confirmed.entry.differs)) }
     {
         self.positions.put(position, confirmed)
     }
 
     /// Puts the line of each position at the end, rising.
-    pub fn write(&self, alloc: Global, text: &mut Bytes) -> Result<(), OutOfMemory>
+    pub fn write(&self, alloc: Global, text: &mut Bytes) -> Put
         ensures { OnOk result (text.new ≡ text.old ++ confirmed_lines self.now) }
     {
         let rows = self.positions.rows(alloc)?;
@@ -123,7 +123,7 @@ fn is_same(a: &Record, b: &Record) -> bool
 }
 
 #[tactic(auto, using(std::proofs::Common::append_assoc), unfolding(crate::specs::Positions::log_line))]
-fn put_record(text: &mut Bytes, position: u64, rec: &Record) -> Result<(), OutOfMemory>
+fn put_record(text: &mut Bytes, position: u64, rec: &Record) -> Put
     ensures { OnOk result (text.new ≡ text.old ++ log_line position rec.now) }
 {
     put_counted(text, b"log ", position)?;

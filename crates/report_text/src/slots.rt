@@ -10,7 +10,7 @@ ghost use Rattle.report_text.specs.Slots.{slot_line, entry_words, row_words};
 ghost use Rattle.report_text.specs.Telling.{with_told, with_messages, IsValidTold, is_void_after, after_told, told_lines, void_words, is_void_effect};
 
 use crate::by_number::ByNumber;
-use crate::text::put_counted;
+use crate::text::{Put, put_counted};
 use cut_core::{Agreed, Effect};
 use fix_ante::first;
 use msg_wire::{Config, Message, What};
@@ -44,7 +44,7 @@ impl<'a> ToldSlots<'a> {
     }
 
     /// More messages were sent.
-    pub fn take_all(&mut self, messages: &'a [Message]) -> Result<(), OutOfMemory>
+    pub fn take_all(&mut self, messages: &'a [Message]) -> Put
         ensures { OnOk result (self.new ≡ with_messages self.old messages.now) }
     {
         for message in messages {
@@ -56,7 +56,7 @@ impl<'a> ToldSlots<'a> {
     }
 
     /// A slot's entry was told.
-    fn take(&mut self, slot: u32, entry: &'a Entry) -> Result<(), OutOfMemory>
+    fn take(&mut self, slot: u32, entry: &'a Entry) -> Put
         ensures { OnOk result (self.new ≡ with_told self.old slot entry.now) }
     {
         let slot = u64::from(slot);
@@ -67,7 +67,7 @@ impl<'a> ToldSlots<'a> {
     }
 
     /// Puts the line of each slot at the end, rising.
-    pub fn write(&self, alloc: Global, cfg: &Config, text: &mut Bytes) -> Result<(), OutOfMemory>
+    pub fn write(&self, alloc: Global, cfg: &Config, text: &mut Bytes) -> Put
         requires cluster { IsValidConfig cfg.now }
         requires valid { AllByRecursion IsValidTold self.now }
         ensures { OnOk result (text.new ≡ text.old ++ told_lines (agreement_from (first_window cfg.now)) self.now) }
@@ -106,7 +106,7 @@ fn did_nothing(effect: Effect) -> bool
 }
 
 #[tactic(auto, using(std::proofs::Common::append_assoc), unfolding(crate::specs::Slots::slot_line))]
-fn put_slot(text: &mut Bytes, slot: u32, entry: &Entry, void: bool) -> Result<(), OutOfMemory>
+fn put_slot(text: &mut Bytes, slot: u32, entry: &Entry, void: bool) -> Put
     ensures { OnOk result (text.new ≡ text.old ++ slot_line slot entry.now void) }
 {
     put_counted(text, b"slot ", u64::from(slot))?;
@@ -115,7 +115,7 @@ fn put_slot(text: &mut Bytes, slot: u32, entry: &Entry, void: bool) -> Result<()
 }
 
 #[tactic(auto, using(std::proofs::Common::append_assoc))]
-fn put_entry(text: &mut Bytes, entry: &Entry) -> Result<(), OutOfMemory>
+fn put_entry(text: &mut Bytes, entry: &Entry) -> Put
     ensures { OnOk result (text.new ≡ text.old ++ entry_words entry.now) }
 {
     match entry {
@@ -140,7 +140,7 @@ fn put_entry(text: &mut Bytes, entry: &Entry) -> Result<(), OutOfMemory>
     }
 }
 
-fn put_rows(text: &mut Bytes, rows: &[Row]) -> Result<(), OutOfMemory>
+fn put_rows(text: &mut Bytes, rows: &[Row]) -> Put
     ensures { OnOk result (text.new ≡ text.old ++ flat_map row_words rows.now) }
 {
     for row in rows {
@@ -151,7 +151,7 @@ fn put_rows(text: &mut Bytes, rows: &[Row]) -> Result<(), OutOfMemory>
 }
 
 /// The end of a slot's line.
-fn put_void(text: &mut Bytes, void: bool) -> Result<(), OutOfMemory>
+fn put_void(text: &mut Bytes, void: bool) -> Put
     ensures { OnOk result (text.new ≡ text.old ++ void_words void) }
 {
     if void {
