@@ -1,18 +1,23 @@
 //! What `play` does with a script that was read to its end.
 
-ghost use Rattle.std.specs.Prelude.{◌≡◌, ◌≤◌, false, [], length, Ok, Err, None, Some, is_some, IfOk, IfErr, OnOk, IsTrue};
+ghost use Rattle.std.specs.Prelude.{◌≡◌, ◌≤◌, false, ℕ, List, [], length, Ok, Err, None, Some, is_some, IfSome, IfOk, IfErr, OnOk, IsTrue};
 ghost use Rattle.std.specs.List.{AllByRecursion};
 ghost use Rattle.spec_base.specs.Faults.{Rose};
 ghost use Rattle.msg_wire.specs.Valid.{IsValidConfig};
 ghost use Rattle.msg_wire.specs.Inputs.{IsInputOf};
+ghost use Rattle.script_text.specs.Names.{Config, Input};
 ghost use Rattle.msg_wire.specs.Steps.{AreValidMessages};
 ghost use Rattle.net_model.specs.Pasts.{past_of, sent};
 ghost use Rattle.script_text.specs.Reading.{script_in};
+ghost use Rattle.script_text.specs.Scripts.{SpellsScript};
+ghost use Rattle.runs.specs.Cuts.{CutsAreTrue};
+ghost use Rattle.runs.specs.Eagerness.{IsEager};
 ghost use Rattle.runs.specs.Runs.{IsRun};
+ghost use Rattle.runs.specs.Safety.{IsSafe};
 ghost use Rattle.world.specs.Playing.{history_of, play_fault};
 ghost use Rattle.speclog.specs.Answers.{status_of, has_history, is_of_whole_input, is_after_reading, refusal_in, is_write_fault, is_unwritten, CountsBlame};
 ghost use Rattle.report_text.specs.Report.{report_of};
-ghost use Rattle.speclog.specs.Plays.{Plays, Writes};
+ghost use Rattle.speclog.specs.Plays.{Plays, BeginsToWrite, Writes};
 ghost use Rattle.speclog.specs.Refusals.{refusal_of, fault_of_play, at_line, RefusesWith, IsWithin};
 
 use crate::fault::Fault;
@@ -42,6 +47,7 @@ pub fn play_text<K: Sink>(alloc: Global, text: &[u8], sink: &mut K) -> Outcome
     ensures unwritten { IsTrue (is_unwritten result.fault) → sink.new ≡ sink.old }
     ensures write_fault { result.fault ≡ Some Fault.WriteFault → Rose (K.faults sink.old) (K.faults sink.new) }
     ensures written { Writes result.fault result.history text.now (K.taken sink.old) (K.taken sink.new) }
+    ensures safe { IfSome result.history (λ history. (cfg : Config) × (inputs : List Input) × (numbers : List ℕ) × SpellsScript text.now cfg inputs numbers × (history ≡ history_of cfg inputs) × IsRun cfg history × IsSafe cfg (past_of history) × CutsAreTrue cfg (past_of history) × IsEager cfg (past_of history) × BeginsToWrite (K.taken sink.old) (K.taken sink.new) (report_of cfg history)) }
 {
     let Played { history, report } = match play_whole(alloc, text) {
         Ok(played) => played,
@@ -82,6 +88,9 @@ fn play_script(alloc: Global, script: &Script) -> Result<Played, Fault>
     requires lines { length script.now.lines ≡ length script.now.inputs }
     ensures history { IfOk result (λ p. p.history ≡ history_of script.now.cfg script.now.inputs) }
     ensures run { IfOk result (λ p. IsRun script.now.cfg p.history) }
+    ensures safe { IfOk result (λ p. IsSafe script.now.cfg (past_of p.history)) }
+    ensures true_cuts { IfOk result (λ p. CutsAreTrue script.now.cfg (past_of p.history)) }
+    ensures eager { IfOk result (λ p. IsEager script.now.cfg (past_of p.history)) }
     ensures report { IfOk result (λ p. p.report ≡ report_of script.now.cfg p.history) }
     ensures accepted { OnOk result (play_fault script.now.cfg script.now.inputs ≡ None) }
     ensures refused { IfErr result (λ fault. RefusesWith fault (fault_of_play script.now.cfg script.now.inputs script.now.lines)) }
@@ -100,12 +109,18 @@ fn play_inputs(alloc: Global, script: &Script) -> Result<History, Fault>
     requires lines { length script.now.lines ≡ length script.now.inputs }
     ensures history { IfOk result (λ history. history ≡ history_of script.now.cfg script.now.inputs) }
     ensures run { IfOk result (λ history. IsRun script.now.cfg history) }
+    ensures safe { IfOk result (λ history. IsSafe script.now.cfg (past_of history)) }
+    ensures true_cuts { IfOk result (λ history. CutsAreTrue script.now.cfg (past_of history)) }
+    ensures eager { IfOk result (λ history. IsEager script.now.cfg (past_of history)) }
     ensures messages { IfOk result (λ history. AreValidMessages (sent (past_of history))) }
     ensures accepted { OnOk result (play_fault script.now.cfg script.now.inputs ≡ None) }
     ensures refused { IfErr result (λ fault. RefusesWith fault (fault_of_play script.now.cfg script.now.inputs script.now.lines)) }
 {
     match world::play(alloc, &script.cfg, script.inputs.as_slice()) {
-        Ok(history) => Ok(history),
+        Ok(history) => {
+            world::laws(&script.cfg, &history);
+            Ok(history)
+        }
         Err(error) => Err(fault_at(&script.lines, error)),
     }
 }

@@ -1,9 +1,20 @@
 //! The commands over a source, a sink and a shelf.
 
-ghost use Rattle.std.specs.Prelude.{◌≡◌, ℕ, List, false, [], Some, is_some, IsSome, IsTrue, map, string_bytes};
+ghost use Rattle.std.specs.Io.KnownBytes.{prepend_known};
+ghost use Rattle.std.specs.Prelude.{◌≡◌, ℕ, List, false, [], Some, is_some, IsSome, IfSome, IsTrue, map, string_bytes};
+ghost use Rattle.report_text.specs.Report.{report_of};
+ghost use Rattle.script_text.specs.Names.{Config, Input};
+ghost use Rattle.script_text.specs.Scripts.{SpellsScript};
+ghost use Rattle.net_model.specs.Pasts.{past_of};
+ghost use Rattle.runs.specs.Cuts.{CutsAreTrue};
+ghost use Rattle.runs.specs.Eagerness.{IsEager};
+ghost use Rattle.runs.specs.Runs.{IsRun};
+ghost use Rattle.runs.specs.Safety.{IsSafe};
 ghost use Rattle.spec_base.specs.Faults.{Rose};
 ghost use Rattle.speclog.specs.Answers.{status_of, usage_of, usage_place, has_history, fault_of_read, is_read_fault, is_write_fault, is_unwritten, CountsBlame, SpeaksOf};
 ghost use Rattle.speclog.specs.Completeness.{IsPlayedWhole};
+ghost use Rattle.speclog.specs.Plays.{BeginsToWrite};
+ghost use Rattle.world.specs.Playing.{history_of};
 
 use crate::fault::Fault;
 use crate::input::{ReadError, read_all};
@@ -21,6 +32,9 @@ use std::thread::Threads;
 /// The shelf is left as it was. At status 2 nothing is read. At the statuses 2, 3 and 4 the sink isn't asked to write; at 6
 /// a part of the report may be out, where the source was read to its end. The count of faults of the source rises by one at
 /// status 4 and that of the sink at 5; else both stand.
+///
+/// At the statuses 0 and 5 (`safe`) what was read spells a script, the history is the one that its inputs make, and a run; it is safe, its accepted cuts
+/// are true, and it is eager; and what was written is its report, or a beginning of it. That it is the whole report at status 0 is said in `answer`.
 pub fn top<R: AllocGlobal + Threads + Wait + Sync, S: Source, K: Sink, H: Shelf>(
     rt: &R,
     words: &[String],
@@ -42,6 +56,7 @@ pub fn top<R: AllocGlobal + Threads + Wait + Sync, S: Source, K: Sink, H: Shelf>
     ensures read_fault { result.fault ≡ Some Fault.ReadFault → Rose (S.faults source.old) (S.faults source.new) }
     ensures write_fault { result.fault ≡ Some Fault.WriteFault → Rose (K.faults sink.old) (K.faults sink.new) }
     ensures answer { SpeaksOf (S.left source.old) (S.left source.new) (K.taken sink.old) (K.taken sink.new) result.fault result.history }
+    ensures safe { IfSome result.history (λ history. (read : List ℕ) × (cfg : Config) × (inputs : List Input) × (numbers : List ℕ) × (S.left source.old ≡ prepend_known read (S.left source.new)) × SpellsScript read cfg inputs numbers × (history ≡ history_of cfg inputs) × IsRun cfg history × IsSafe cfg (past_of history) × CutsAreTrue cfg (past_of history) × IsEager cfg (past_of history) × BeginsToWrite (K.taken sink.old) (K.taken sink.new) (report_of cfg history)) }
     ensures played { IsPlayedWhole (map string_bytes words.now) (S.left source.old) result.fault (Rose (S.faults source.old) (S.faults source.new)) (Rose (K.faults sink.old) (K.faults sink.new)) }
     ensures shelf { shelf.new ≡ shelf.old }
 {
@@ -68,6 +83,7 @@ pub fn top_play<S: Source, K: Sink>(
     ensures read_fault { result.fault ≡ Some Fault.ReadFault → Rose (S.faults source.old) (S.faults source.new) }
     ensures write_fault { result.fault ≡ Some Fault.WriteFault → Rose (K.faults sink.old) (K.faults sink.new) }
     ensures answer { SpeaksOf (S.left source.old) (S.left source.new) (K.taken sink.old) (K.taken sink.new) result.fault result.history }
+    ensures safe { IfSome result.history (λ history. (read : List ℕ) × (cfg : Config) × (inputs : List Input) × (numbers : List ℕ) × (S.left source.old ≡ prepend_known read (S.left source.new)) × SpellsScript read cfg inputs numbers × (history ≡ history_of cfg inputs) × IsRun cfg history × IsSafe cfg (past_of history) × CutsAreTrue cfg (past_of history) × IsEager cfg (past_of history) × BeginsToWrite (K.taken sink.old) (K.taken sink.new) (report_of cfg history)) }
     ensures played { IsPlayedWhole (map string_bytes words.now) (S.left source.old) result.fault (Rose (S.faults source.old) (S.faults source.new)) (Rose (K.faults sink.old) (K.faults sink.new)) }
 {
     if let Some(word) = misplaced(words) {
