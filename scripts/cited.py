@@ -28,7 +28,7 @@ def is_there(path):
 def missing(page, text):
     """What a page cites that isn't there."""
     for name in re.findall(r"`([A-Za-z_]\w*)`", text):
-        if not WORDS & {name, name.rpartition("_")[0] + "_"}:
+        if not WORDS & {name, name.rpartition("_")[0] + "_" if "_" in name else name}:
             yield f"{page}: `{name}`"
     for path in re.findall(r"(?:\w+/)?(?:specs|src|proofs)/[\w/]+\.(?:antt|rt)", text):
         if not is_there(path):
