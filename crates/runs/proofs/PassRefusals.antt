@@ -133,10 +133,10 @@ refused = record {
       let clash : ◌≡◌ {A = ℕ} 0 1 = h 0 0 0 1 (sides.Primary, 0, [], (0, omega arith, refl)) (sides.Primary, 1, [], (1, omega arith, refl)) in omega arith;
   number_left_behind = λ h.
       let ends = h 0 (home 0 0) (home 1 1) ([], ([], refl)) in
-      no_number ends.end ends.gone (ends.numbers sides.Primary);
+      no_number ends.end ends.gone ends.numbers;
   record_at_a_covered_local = λ h.
       let clash : 1 ≤ 0 = h 0 (home 0 0) (home 1 0) (broken.cut ∷ []) broken.removal 0
-      ([], ([], refl)) (record { known = ([], refl); there = refl; gone = refl }) (sides.Primary, 0, 53 ∷ [], refl) in
+      ([], ([], refl)) (record { known = ([], refl); there = refl; gone = refl }) (0, 53 ∷ [], refl) in
       omega arith;
   -- maps
   position_is_lost = λ h.

@@ -103,6 +103,13 @@ taken_is_a_run = (
   ),
 )
 
+copied_is_a_run : IsPastOf pair worked.record_copied
+unfolding reach
+copied_is_a_run = (
+  taken (omega arith) (omega arith) (omega arith) (omega arith, (omega arith, omega arith, omega arith)) (10, omega arith, refl) refl refl,
+  taken_is_a_run,
+)
+
 -- ---- the premises
 
 -- the sequencer is a majority of one
@@ -123,7 +130,7 @@ pub premises_are_met : PremisesAreMet
 unfolding digits reach
 premises_are_met = record {
   way_is_a_run = confirmed_is_a_run;
-  move_is_a_run = taken_is_a_run;
+  move_is_a_run = copied_is_a_run;
   accepted = (2, omega arith, refl);
   chosen = first_is_chosen;
   known = refl;
@@ -138,7 +145,7 @@ premises_are_met = record {
   begins = (sides.Primary, 0, 53 ∷ [], (0, omega arith, refl));
   in_turn = ([], ([], refl));
   goes = record { known = ([], refl); there = refl; gone = refl };
-  has_record = (sides.Primary, 0, 53 ∷ [], refl);
+  has_record = (0, 53 ∷ [], refl);
   was_known = (k0, ([], refl));
   on_the_map = let below : 0 < 4 = omega arith in below;
   between = refl;

@@ -2,7 +2,7 @@
 use Rattle.std.specs.Prelude.{List, ℕ, [], ◌∷◌, ◌+◌}
 use Rattle.quota_table.specs.declared.rows.Row.{Row}
 use Rattle.net_model.specs.Pasts.{Past}
-use Rattle.node_rules.specs.Examples.{single, pair, two_rows, q0, q1, q2, s0p, s0b, s1p, c0, k0, five, seven, comes}
+use Rattle.node_rules.specs.Examples.{single, pair, two_rows, q0, q1, q2, s0p, s0b, s1p, s1b, c0, k0, five, seven, comes}
 use Rattle.node_rules.specs.Examples as examples
 use Rattle.runs.specs.Names.{NodeId, Config, Entry, What, Record, HistoryEntry}
 use Rattle.runs.specs.Names.entries
@@ -120,10 +120,10 @@ abbrev pub moved_too_far : Past
 moved_too_far =
     does c0 (comes s0p c0 (whats.Fate 1)) [] ∷ learns c0 0 removal ∷ does c0 (comes s0p c0 (whats.Ack 0 0)) [] ∷ submits (53 ∷ []) ∷ []
 
--- the new home has a record of the client at a local that a cut before the removal covered
+-- the new home's log that counts has a record of the client at a local that a cut before the removal covered
 abbrev pub begun_early : Past
 begun_early =
-    does c0 (comes s0p c0 (whats.Fate 0)) [] ∷ learns c0 1 removal ∷ learns c0 0 cut ∷ does s1p (comes c0 s1p (whats.Append 0 0 (53 ∷ []))) [] ∷ []
+    does c0 (comes s0p c0 (whats.Fate 0)) [] ∷ learns c0 1 removal ∷ learns c0 0 cut ∷ does s1b (comes s1p s1b (whats.Replicate 0 five)) [] ∷ []
 
 -- ---- maps
 

@@ -10,7 +10,7 @@ use Rattle.runs.specs.Names.records
 use Rattle.runs.specs.Names.items
 use Rattle.runs.specs.Names.whats
 use Rattle.runs.specs.Kinds.{items_at}
-use Rattle.runs.specs.Known.{agreed_after, known_at, agreed_at, log_at}
+use Rattle.runs.specs.Known.{agreed_after, known_at, agreed_at, held_log}
 use Rattle.runs.specs.Marks.{IsPrefix, numbers_of_client}
 
 -- ---- homes
@@ -50,8 +50,7 @@ pub record EndsWhereNextBegins (cfg : Config) (client : ℕ) (past : Past) (earl
   pub end : ℕ
   pub gone : gone_end (agreed_at cfg (nodes.Client client) past) earlier.shard ≡ Some end
   pub rises : earlier.first ≤ later.first
-  pub numbers : (side : Side) →
-      numbers_of_client client (take end (log_at cfg earlier.shard side past)) ≡ range_with_len earlier.first (later.first - earlier.first)
+  pub numbers : numbers_of_client client (take end (held_log cfg earlier.shard past)) ≡ range_with_len earlier.first (later.first - earlier.first)
 
 abbrev pub HomesEndWhereTheNextBegins : Config → Past → Type 0
 HomesEndWhereTheNextBegins cfg past =
@@ -63,10 +62,10 @@ pub record GoesWith (cfg : Config) (client : ℕ) (past : Past) (shard : ℕ) (b
   pub there : is_gone (agreed_after cfg before) shard ≡ false
   pub gone : is_gone (agreed_after cfg (before ++ entry ∷ [])) shard ≡ true
 
--- a replica of a shard has a record of the client at the local
+-- the log of a shard that counts has a record of the client at the local
 abbrev pub HasRecordOf : Config → ℕ → Past → ℕ → ℕ → Type 0
 HasRecordOf cfg client past shard local =
-    (side : Side) × (number : ℕ) × (body : List ℕ) × (slice_get (log_at cfg shard side past) local ≡ Some (records.Data client number body))
+    (number : ℕ) × (body : List ℕ) × (slice_get (held_log cfg shard past) local ≡ Some (records.Data client number body))
 
 -- the client's records at the later home stand at locals that weren't covered as the earlier one went
 abbrev pub LaterHomesBeginLater : Config → Past → Type 0

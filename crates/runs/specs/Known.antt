@@ -6,6 +6,7 @@ use Rattle.net_model.specs.Pasts.{Past}
 use Rattle.node_rules.specs.Nodes.{first_window}
 use Rattle.runs.specs.Names.{NodeId, Side, Config, Entry, Record}
 use Rattle.runs.specs.Names.nodes
+use Rattle.runs.specs.Names.sides
 use Rattle.runs.specs.Kinds.{items_at}
 use Rattle.runs.specs.Marks.{known_by, log_by}
 
@@ -23,3 +24,7 @@ agreed_at cfg node past = agreed_after cfg (known_at cfg node past)
 -- a replica's log
 abbrev pub log_at : Config → ℕ → Side → Past → List Record
 log_at cfg shard side past = log_by (items_at cfg (nodes.Shard shard side) past)
+
+-- the log of a shard that counts
+abbrev pub held_log : Config → ℕ → Past → List Record
+held_log cfg shard past = log_at cfg shard sides.Backup past

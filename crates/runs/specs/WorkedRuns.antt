@@ -99,6 +99,12 @@ record_taken =
     ∷ entry c0 (events.Submit 0 (53 ∷ [])) (examples.sent c0 s1p (whats.Append 0 0 (53 ∷ [])) ∷ []) []
     ∷ client_moved
 
+-- and copied
+abbrev pub record_copied : Past
+record_copied =
+    entry s1b (comes s1p s1b (whats.Replicate 0 five)) (examples.sent s1b s1p (whats.Replicated 1) ∷ examples.sent s1b q0 (whats.Report 1) ∷ []) []
+    ∷ record_taken
+
 abbrev pub old_home : Home
 old_home = record { shard = 0; first = 0 }
 
@@ -109,7 +115,7 @@ new_home = record { shard = 1; first = 0 }
 
 pub record PremisesAreMet : Type 0 where
   pub way_is_a_run : IsPastOf single record_confirmed
-  pub move_is_a_run : IsPastOf pair record_taken
+  pub move_is_a_run : IsPastOf pair record_copied
   -- agreement
   pub accepted : HasAccepted single record_confirmed 1 0 first_round 0
   pub chosen : IsChosen single record_confirmed 1 first_round
@@ -126,9 +132,9 @@ pub record PremisesAreMet : Type 0 where
   pub covered : covered_locals (agreed_at single k0 record_confirmed) 0 ≡ 1
   -- clients
   pub begins : BeginsWith record_confirmed 0 0 0
-  pub in_turn : AreInTurn pair 0 record_taken old_home new_home
-  pub goes : GoesWith pair 0 record_taken 0 [] removal
-  pub has_record : HasRecordOf pair 0 record_taken 1 0
+  pub in_turn : AreInTurn pair 0 record_copied old_home new_home
+  pub goes : GoesWith pair 0 record_copied 0 [] removal
+  pub has_record : HasRecordOf pair 0 record_copied 1 0
   -- maps
   pub was_known : WasKnown single record_confirmed (same_table ∷ first_round ∷ [])
   pub on_the_map : 0 < length (map_of (agreed_after single (same_table ∷ [])))
