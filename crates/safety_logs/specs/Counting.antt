@@ -8,12 +8,9 @@ use Rattle.shard_node.specs.States.{durable_locals}
 use Rattle.runs.specs.Names.{Side, Config, Record}
 use Rattle.runs.specs.Names.sides
 use Rattle.runs.specs.Kinds.{replica_after}
+pub use Rattle.runs.specs.Known.{held_log}
 use Rattle.runs.specs.Known.{log_at}
 use Rattle.runs.specs.Marks.{IsPrefix}
-
--- the log of a shard that counts
-abbrev pub held_log : Config → ℕ → Past → List Record
-held_log cfg shard past = log_at cfg shard sides.Backup past
 
 -- a list of so many records begins the logs of both replicas
 pub record AreCommon (cfg : Config) (past : Past) (shard len : ℕ) : Type 0 where
