@@ -1,4 +1,4 @@
--- What nodes know begins the agreed list, which grows at its end; so a gone shard has one end in all that is known, and both logs reach it.
+-- What nodes know begins the agreed list, which grows at its end; so a gone shard has one end in all that is known, and logs reach it.
 use Rattle.std.proofs.Common.{◌≡◌, ◌∙◌, ℕ, ◌<◌, ◌≤◌, true, List, [], ◌∷◌, length, Some, refl, sym, ap, subst, arith}
 use Rattle.std.proofs.lemmas.List.{length-append}
 use Rattle.std.proofs.lemmas.Option.{same_Some}
@@ -13,7 +13,7 @@ use Rattle.runs.specs.Names.{NodeId, Config, Entry, Event, HistoryEntry}
 use Rattle.runs.specs.Names.nodes
 use Rattle.runs.specs.Names.whats
 use Rattle.runs.specs.Runs.{IsPastOf}
-use Rattle.runs.specs.Known.{agreed_after, agreed_at, known_at}
+use Rattle.runs.specs.Known.{agreed_after, agreed_at, known_at, held_log}
 use Rattle.runs.specs.Logs.{BothReach}
 use Rattle.runs.specs.Maps.{WasKnown}
 use Rattle.runs.specs.Marks.{IsPrefix, known_by}
@@ -28,7 +28,7 @@ use Rattle.safety_frame.proofs.Pasts.{own_state, other_stored, no_items, known_g
 use Rattle.safety_frame.proofs.StableItems.{known_is}
 use Rattle.safety_frame.proofs.StableParts.{replica_known, client_known, consumer_known}
 use Rattle.safety_agreement.proofs.Decideds.{decideds_are_known}
-use Rattle.safety_logs.proofs.CoveredLogs.{covered_is_held}
+use Rattle.safety_logs.proofs.CoveredLogs.{covered_is_held, covered_is_common}
 use Rattle.safety_logs.proofs.AgreedLists.{shorter, whole, agreed_begins as agreed_in_whole}
 use Rattle.safety_logs.proofs.Coming.{was_sent}
 use Rattle.safety_logs.proofs.Fronts.{no_longer}
@@ -134,3 +134,18 @@ module _ (cfg : Config) (valid : IsValidConfig cfg) (past : Past) (run : IsPastO
       let whole = known_at cfg was.0 past in
       let later = (continues cfg valid past run known whole was.1 (was.0, begins_itself whole)).gone_stay shard end at in
       subst (BothReach cfg past shard) (sym (end_is whole (was.0, begins_itself whole) shard end later)) (covered_is_held cfg past valid run was.0 shard)
+
+  -- and so does the log that counts, of a shard that is gone by the agreed list, or by what a node knows
+  pub end_held : (shard end : ℕ) → gone_end (agreed_after cfg (agreed_list cfg past)) shard ≡ Some end → end ≤ length (held_log cfg shard past)
+  end_held shard end at =
+      omega (
+        arith,
+        end_is (agreed_list cfg past) agreed_known shard end at,
+        (covered_is_common cfg past valid run shard).within,
+      )
+
+  pub known_end_held : (node : NodeId) (shard end : ℕ) → gone_end (agreed_at cfg node past) shard ≡ Some end → end ≤ length (held_log cfg shard past)
+  known_end_held node shard end at =
+      end_held shard end
+      ((continues cfg valid past run (known_at cfg node past) (agreed_list cfg past) (agreed_begins cfg valid past run node) agreed_known).gone_stay
+      shard end at)

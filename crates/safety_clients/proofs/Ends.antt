@@ -13,27 +13,30 @@ use Rattle.msg_wire.specs.Valid.{IsValidConfig}
 use Rattle.net_model.specs.Pasts.{Past}
 use Rattle.runs.specs.Names.{Config, Entry, HistoryEntry}
 use Rattle.runs.specs.Names.nodes
+use Rattle.runs.specs.Names.sides
 use Rattle.runs.specs.Names.records
 use Rattle.runs.specs.Runs.{IsPastOf}
-use Rattle.runs.specs.Known.{agreed_after, known_at, log_at}
+use Rattle.runs.specs.Known.{agreed_after, known_at, held_log}
 use Rattle.runs.specs.Maps.{WasKnown}
 use Rattle.runs.specs.Marks.{IsPrefix, log_by, numbers_of_client}
 use Rattle.runs.specs.Homes.{Home, homes_at, EndsWhereNextBegins, HomesEndWhereTheNextBegins, HasRecordOf, LaterHomesBeginLater, ClientsHold}
 use Rattle.runs.proofs.SameNodes.{same_node_is}
+use Rattle.safety_frame.specs.Agreed.{agreed_list}
 use Rattle.safety_frame.specs.EveryRun.{OfEveryRun}
-use Rattle.safety_frame.proofs.Pasts.{other_stored, known_grows, log_grows}
+use Rattle.safety_frame.proofs.Pasts.{other_stored, known_grows}
 use Rattle.safety_frame.proofs.Lists.{begins_itself, begins_on, begins_more}
 use Rattle.safety_logs.proofs.AgreedLists.{shorter}
-use Rattle.safety_logs.proofs.CoveredLogs.{covered_is_held}
-use Rattle.safety_clients.proofs.Agreeing.{same_end, end_reached}
+use Rattle.safety_logs.proofs.CoveredLogs.{covered_is_common}
+use Rattle.safety_logs.proofs.Growing.{held_grows}
+use Rattle.safety_clients.proofs.Agreeing.{agreed_begins, agreed_known, same_end, known_end_held}
 use Rattle.safety_clients.proofs.Chains.{EachNext, next_in, at_end}
-use Rattle.safety_clients.proofs.Fates.{reach_of, taken_stays, fate_there}
+use Rattle.safety_clients.proofs.Fates.{held_stays, fate_there}
 use Rattle.safety_clients.proofs.Fronts.{both_begin, continues, ended, gone_stays}
 use Rattle.safety_clients.proofs.Homes.{LeftIn, all_left, homes_are_once}
 use Rattle.safety_clients.proofs.Chains.{member_at}
 use Rattle.safety_clients.proofs.Homes.{same_first}
 use Rattle.safety_clients.proofs.Telling.{one_first_per_shard}
-use Rattle.safety_clients.proofs.Records.{records_are_of_a_home}
+use Rattle.safety_clients.proofs.Records.{held_are_of_a_home}
 use Rattle.safety_clients.proofs.Numbered.{has_number}
 use Rattle.safety_clients.proofs.Turns.{MovesHome, every_turn}
 
@@ -48,12 +51,12 @@ module _ (cfg : Config) (valid : IsValidConfig cfg) where
       let known = known_at cfg node past in
       let longer = known_at cfg node now in
       let on = continues cfg valid now run known longer (known_grows cfg node e past) (node, begins_itself longer) in
-      let both = end_reached cfg valid past run.1 known (node, begins_itself known) earlier.shard is.end is.gone in
+      let within = known_end_held cfg valid past run.1 node earlier.shard is.end is.gone in
       record {
         end = is.end;
         gone = on.gone_stay earlier.shard is.end is.gone;
         rises = is.rises;
-        numbers = λ side. ap (numbers_of_client client) (taken_stays cfg e past earlier.shard is.end both side) ∙ is.numbers side;
+        numbers = ap (numbers_of_client client) (held_stays cfg e past valid run earlier.shard is.end within) ∙ is.numbers;
       }
 
   ends_there : (e : HistoryEntry) (past : Past) (client : ℕ) → IsPastOf cfg (e ∷ past) → (m : MovesHome cfg client e past)
@@ -74,7 +77,7 @@ module _ (cfg : Config) (valid : IsValidConfig cfg) where
         end = fate.end;
         gone = gone ∙ ap (λ k. Some k) same;
         rises = omega (arith, first, fate.rises);
-        numbers = λ side. fate.numbers side ∙ ap (λ f. range_with_len f (m.later.first - f)) first;
+        numbers = fate.numbers ∙ ap (λ f. range_with_len f (m.later.first - f)) first;
       }
 
   pub ends_next : (past : Past) → IsPastOf cfg past → (client : ℕ) → EachNext (EndsWhereNextBegins cfg client past) (homes_at cfg client past)
@@ -96,14 +99,14 @@ module _ (cfg : Config) (valid : IsValidConfig cfg) where
       → HasRecordOf cfg client (e ∷ past) m.later.shard local → ⊥
   none_yet e past client run m local has =
       let shard = m.later.shard in
-      let node = nodes.Shard shard has.0 in
+      let node = nodes.Shard shard sides.Backup in
       let other = ap (λ x. same_node x node) (same_node_is e.node (nodes.Client client) m.own) in
-      let log = log_at cfg shard has.0 past in
-      let at : slice_get log local ≡ Some (records.Data client has.1 has.2) =
-      ap (λ l. slice_get (log_by l) local) (sym (other_stored cfg node e past other)) ∙ has.3 in
+      let log = held_log cfg shard past in
+      let at : slice_get log local ≡ Some (records.Data client has.0 has.1) =
+      ap (λ l. slice_get (log_by l) local) (sym (other_stored cfg node e past other)) ∙ has.2 in
       let homes = homes_at cfg client past in
-      elim (records_are_of_a_home cfg past valid run.1 client shard has.0).of_home [
-        | inl none ↦ has_number client has.1 has.2 log local at none
+      elim (held_are_of_a_home cfg past valid run.1 client shard).of_home [
+        | inl none ↦ has_number client has.0 has.1 log local at none
         | inr home ↦
             let old : Home = record { shard = shard; first = home.0 } in
             let one = member_at homes old home.1 in
@@ -119,16 +122,17 @@ module _ (cfg : Config) (valid : IsValidConfig cfg) where
       → BeginsPast past client front shard → BeginsPast (e ∷ past) client front shard
   begins_stay e past client front shard run p before local has =
       let node = nodes.Client client in
-      let log = log_at cfg shard has.0 past in
-      let known = known_at cfg node past in
+      let log = held_log cfg shard past in
+      let agreed = agreed_list cfg past in
       elim (cases_lt local (length log)) [
         | inl old ↦
-            let grown = log_grows cfg shard has.0 e past in
-            let at = sym (slice_get-append_left log grown.0 local old) ∙ (ap (λ l. slice_get l local) (sym grown.1) ∙ has.3) in
-            before local (has.0, has.1, has.2, at)
+            let grown = (held_grows cfg e past shard valid run).held in
+            let at = sym (slice_get-append_left log grown.0 local old) ∙ (ap (λ l. slice_get l local) (sym grown.1) ∙ has.2) in
+            before local (has.0, has.1, at)
         | inr new ↦
-            let held = reach_of cfg past shard _ (covered_is_held cfg past valid run.1 node shard) has.0 in
-            let more = (continues cfg valid past run.1 front known p (node, begins_itself known)).locals_grow shard in
+            let held = (covered_is_common cfg past valid run.1 shard).within in
+            let begins = begins_on front (known_at cfg node past) agreed p (agreed_begins cfg valid past run.1 node) in
+            let more = (continues cfg valid past run.1 front agreed begins (agreed_known cfg valid past run.1)).locals_grow shard in
             omega (arith, held, more, new)
       ]
 

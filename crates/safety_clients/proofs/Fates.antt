@@ -1,17 +1,19 @@
--- A Fate tells the number after a client's covered records at a home that is gone: its sender's log has them all, and both logs have the same there.
-use Rattle.std.proofs.Common.{◌≡◌, ◌∙◌, ℕ, ◌+◌, ◌-◌, ◌≤◌, true, ◌∷◌, length, take, Contains, refl, sym, ap, subst, inl, inr, arith}
+-- A Fate tells the number after a client's covered records at a home that is gone: its sender's log has them all, as the log that counts.
+use Rattle.std.proofs.Common.{◌≡◌, ◌∙◌, ℕ, ◌+◌, ◌-◌, ◌<◌, ◌≤◌, true, List, ◌∷◌, length, take, Contains, refl, sym, ap, subst, inl, inr, arith}
 use Rattle.std.specs.Prelude.{IsTrue}
 use Rattle.std.specs.List.{AllByRecursion, range_with_len}
+use Rattle.std.proofs.lemmas.List.{length-take-le}
+use Rattle.cut_core.specs.Map.{covered_locals}
 use Rattle.msg_wire.specs.Nodes.{is_replica, same_node}
-use Rattle.msg_wire.specs.Valid.{IsValidConfig}
+use Rattle.msg_wire.specs.Valid.{IsValidConfig, IsNodeOf}
 use Rattle.net_model.specs.Pasts.{Past, sent}
 use Rattle.node_rules.proofs.Lists.{all_weaken}
-use Rattle.runs.specs.Names.{NodeId, Side, Config, Message, What, HistoryEntry}
+use Rattle.runs.specs.Names.{NodeId, Side, Config, Record, Message, What, HistoryEntry}
 use Rattle.runs.specs.Names.nodes
 use Rattle.runs.specs.Names.sides
 use Rattle.runs.specs.Names.whats
 use Rattle.runs.specs.Runs.{IsPastOf}
-use Rattle.runs.specs.Known.{agreed_at, known_at, log_at}
+use Rattle.runs.specs.Known.{agreed_at, known_at, log_at, held_log}
 use Rattle.runs.specs.Logs.{BothReach}
 use Rattle.runs.specs.Marks.{numbers_of_client}
 use Rattle.runs.specs.Homes.{Home, homes_at}
@@ -19,17 +21,19 @@ use Rattle.runs.proofs.SameNodes.{same_node_is, node_itself}
 use Rattle.safety_frame.specs.Agreed.{agreed_list}
 use Rattle.safety_frame.specs.EveryRun.{OfEveryRun}
 use Rattle.safety_frame.proofs.NodeKinds.{after, replicas}
-use Rattle.safety_frame.proofs.Pasts.{of_sequencer, of_client, of_consumer, log_grows}
+use Rattle.safety_frame.proofs.Pasts.{of_sequencer, of_client, of_consumer}
 use Rattle.safety_frame.proofs.Growth.{homes_grow}
 use Rattle.safety_frame.proofs.Lists.{all_true, begins_itself, member_stays}
 use Rattle.safety_frame.proofs.Senders.{every_sent}
 use Rattle.safety_logs.proofs.AgreedLists.{agreed_grows, same_take}
-use Rattle.safety_logs.proofs.Backups.{backup_is_a_prefix}
+use Rattle.safety_logs.specs.Counting.{durable_at}
+use Rattle.safety_logs.proofs.DurableLogs.{durable_is_held}
 use Rattle.safety_logs.proofs.Fronts.{front_of}
+use Rattle.safety_logs.proofs.Growing.{held_grows}
 use Rattle.safety_clients.specs.Fates.{IsFate, FateTells, FatesTell}
 use Rattle.safety_clients.specs.Records.{RunFrom}
 use Rattle.safety_clients.specs.Telling.{OfShard}
-use Rattle.safety_clients.proofs.Agreeing.{agreed_begins, agreed_known, end_reached}
+use Rattle.safety_clients.proofs.Agreeing.{agreed_begins, agreed_known, end_is, end_held}
 use Rattle.safety_clients.proofs.Answering.{IsNextAfter, ClientIsTold, sends_tell}
 use Rattle.safety_clients.proofs.Fronts.{continues}
 use Rattle.safety_clients.proofs.Homes.{same_first}
@@ -44,21 +48,29 @@ pub reach_of : (cfg : Config) (past : Past) (shard end : ℕ) → BothReach cfg 
 reach_of cfg past shard end both sides.Primary = both.primary
 reach_of cfg past shard end both sides.Backup = both.backup
 
--- is the same in both
-module _ (cfg : Config) (valid : IsValidConfig cfg) (past : Past) (run : IsPastOf cfg past) (shard end : ℕ) (both : BothReach cfg past shard end) where
-  as_backup : (side : Side) → take end (log_at cfg shard side past) ≡ take end (log_at cfg shard sides.Backup past)
-  as_backup sides.Backup = refl
-  as_backup sides.Primary =
-      same_take end (log_at cfg shard sides.Backup past) (log_at cfg shard sides.Primary past) (backup_is_a_prefix cfg past valid run shard) both.backup
+-- ---- the log that counts
 
-  pub same_taken : (side other : Side) → take end (log_at cfg shard side past) ≡ take end (log_at cfg shard other past)
-  same_taken side other = as_backup side ∙ sym (as_backup other)
+-- what it has up to an end that it reaches stays
+pub held_stays : (cfg : Config) (e : HistoryEntry) (past : Past) → IsValidConfig cfg → IsPastOf cfg (e ∷ past) → (shard end : ℕ)
+    → end ≤ length (held_log cfg shard past) → take end (held_log cfg shard (e ∷ past)) ≡ take end (held_log cfg shard past)
+held_stays cfg e past valid run shard end within =
+    same_take end (held_log cfg shard past) (held_log cfg shard (e ∷ past)) (held_grows cfg e past shard valid run).held within
 
--- and stays so
-pub taken_stays : (cfg : Config) (e : HistoryEntry) (past : Past) (shard end : ℕ) → BothReach cfg past shard end → (side : Side)
-    → take end (log_at cfg shard side (e ∷ past)) ≡ take end (log_at cfg shard side past)
-taken_stays cfg e past shard end both side =
-    same_take end (log_at cfg shard side past) (log_at cfg shard side (e ∷ past)) (log_grows cfg shard side e past) (reach_of cfg past shard end both side)
+-- lists that are the same so far are the same up to less
+same_front : (end far : ℕ) (xs ys : List Record) → take far xs ≡ take far ys → far ≤ length ys → end ≤ far → take end xs ≡ take end ys
+same_front end far xs ys same within less =
+    let long = length-take-le far ys within in
+    let one = same_take end (take far xs) xs (front_of far xs) (omega (arith, ap length same, long, less)) in
+    let other = same_take end (take far ys) ys (front_of far ys) (omega (arith, long, less)) in
+    one ∙ (ap (take end) same ∙ sym other)
+
+-- what a replica knows to be covered stands in the log that counts as in its own
+pub same_covered : (cfg : Config) (valid : IsValidConfig cfg) (past : Past) → IsPastOf cfg past → (shard : ℕ) (side : Side) → shard < cfg.shards → (end : ℕ)
+    → end ≤ covered_locals (agreed_at cfg (nodes.Shard shard side) past) shard
+    → take end (log_at cfg shard side past) ≡ take end (held_log cfg shard past)
+same_covered cfg valid past run shard side here end less =
+    let is = durable_is_held cfg past valid run shard side here in
+    same_front end (durable_at cfg shard side past) (log_at cfg shard side past) (held_log cfg shard past) is.held is.within (omega (arith, less, is.covered))
 
 -- in any beginning of a home's log a client's numbers run on from its first one there
 pub runs_in_front : (cfg : Config) (valid : IsValidConfig cfg) (past : Past) → IsPastOf cfg past → (client shard : ℕ) (side : Side) (first end : ℕ)
@@ -84,14 +96,14 @@ module _ (cfg : Config) (valid : IsValidConfig cfg) where
       let now = e ∷ past in
       let agreed = agreed_list cfg past in
       let on = continues cfg valid now run agreed (agreed_list cfg now) (agreed_grows cfg valid e past run) (agreed_known cfg valid now run) in
-      let both = end_reached cfg valid past run.1 agreed (agreed_known cfg valid past run.1) shard is.end is.gone in
+      let within = end_held cfg valid past run.1 shard is.end is.gone in
       record {
         first = is.first;
         home = member_stays (homes_at cfg client past) (homes_at cfg client now) _ (homes_grow cfg client e past) is.home;
         end = is.end;
         gone = on.gone_stay shard is.end is.gone;
         rises = is.rises;
-        numbers = λ side. ap (numbers_of_client client) (taken_stays cfg e past shard is.end both side) ∙ is.numbers side;
+        numbers = ap (numbers_of_client client) (held_stays cfg e past valid run shard is.end within) ∙ is.numbers;
       }
 
   still : (e : HistoryEntry) (past : Past) → IsPastOf cfg (e ∷ past) → (shard : ℕ) (what : What) (to : NodeId) → FateTells cfg past shard what to
@@ -121,7 +133,9 @@ module _ (cfg : Config) (valid : IsValidConfig cfg) where
         member_stays (homes_at cfg client past) (homes_at cfg client now) home (homes_grow cfg client e past) asked.home in
         let known = known_at cfg node now in
         let on = continues cfg valid now run known (agreed_list cfg now) (agreed_begins cfg valid now run node) (agreed_known cfg valid now run) in
-        let both = end_reached cfg valid now run known (node, begins_itself known) shard is.end is.gone in
+        let here : shard < cfg.shards = subst (IsNodeOf cfg) (same_node_is e.node node own) run.0.within in
+        let covered = end_is cfg valid now run known (node, begins_itself known) shard is.end is.gone in
+        let same = same_covered cfg valid now run shard side here is.end (omega (arith, covered)) in
         let runs = runs_in_front cfg valid now run client shard side is.first is.end there in
         let next_is : next ≡ is.first + length (numbers_of_client client front) = is.expected ∙ expected_is client is.first is.first front runs (λ _. refl) in
         let count : length (numbers_of_client client front) ≡ next - is.first = omega (arith, next_is) in
@@ -131,8 +145,7 @@ module _ (cfg : Config) (valid : IsValidConfig cfg) where
           end = is.end;
           gone = on.gone_stay shard is.end is.gone;
           rises = omega (arith, next_is);
-          numbers = λ other.
-              ap (numbers_of_client client) (same_taken cfg valid now run shard is.end both other side) ∙ (runs ∙ ap (range_with_len is.first) count);
+          numbers = ap (numbers_of_client client) (sym same) ∙ (runs ∙ ap (range_with_len is.first) count);
         }
 
     told_now : (what : What) (to : NodeId)

@@ -41,7 +41,7 @@ use Rattle.safety_clients.proofs.Placed.{Compared}
 use Rattle.safety_clients.proofs.Placed as placed
 use Rattle.safety_clients.proofs.Chains.{member_at}
 use Rattle.safety_clients.proofs.Homes.{same_first}
-use Rattle.safety_clients.proofs.Records.{records_are_of_a_home}
+use Rattle.safety_clients.proofs.Records.{held_are_of_a_home}
 
 covered_mapped : (a : Agreement) (p : ℕ) → p < length a.covered → mapped a p ≡ located a p
 covered_mapped a p within = slice_get-append_left a.covered (rest_of a ++ granted_layout a.granted) p within
@@ -92,7 +92,7 @@ module _ (cfg : Config) (valid : IsValidConfig cfg) (past : Past) (run : IsPastO
   home_runs : (home : Home) (number local : ℕ) (body : List ℕ) → Contains homes home
       → slice_get (held home.shard) local ≡ Some (records.Data client number body)
       → RunFrom home.first (numbers_of_client client (held home.shard))
-  home_runs home number local body there at = elim (records_are_of_a_home cfg past valid run client home.shard sides.Backup).of_home [
+  home_runs home number local body there at = elim (held_are_of_a_home cfg past valid run client home.shard).of_home [
     | inl none ↦ absurd (has_number client number body (held home.shard) local at none)
     | inr r ↦
         subst (λ f. RunFrom f (numbers_of_client client (held home.shard)))
@@ -107,7 +107,7 @@ module _ (cfg : Config) (valid : IsValidConfig cfg) (past : Past) (run : IsPastO
             let log = held home.shard in
             let is = number_is client home.first number body log local (home_runs home number local body (Contains-slice_get homes i home here) at) at in
             let rises = rank_rises client number body log local ends.end at (omega (arith, covered, end)) in
-            let all = ap length (ends.numbers sides.Backup) ∙ length-range_with_len home.first (later.first - home.first) in
+            let all = ap length (ends.numbers) ∙ length-range_with_len home.first (later.first - home.first) in
             omega (arith, is, rises, all, ends.rises),
         ends.rises,
       )
@@ -146,7 +146,7 @@ module _ (cfg : Config) (valid : IsValidConfig cfg) (past : Past) (run : IsPastO
       let same = placed.placed_once cfg valid past run client shard first local position found.0 x.covered stands in
       let later_owner : mapped agreed place ≡ Some (record { shard = other_shard; local = later }) =
       covered_mapped agreed place (slice_get_within agreed.covered place _ y.covered) ∙ y.covered in
-      let above = on.later_is_above other_shard later place (left.begins later (sides.Backup, other, text, y.at)) later_owner in
+      let above = on.later_is_above other_shard later place (left.begins later (other, text, y.at)) later_owner in
       omega (arith, within, same, above)
 
   across : (i j : ℕ) (shard first position local number : ℕ) (body : List ℕ) (other_shard other_first place later other : ℕ) (text : List ℕ)
@@ -218,7 +218,7 @@ module _ (cfg : Config) (valid : IsValidConfig cfg) (past : Past) (run : IsPastO
         | inr from ↦
             let has = range_has before.first (home.first - before.first) number from (omega (arith, less, ends.rises)) in
             let found =
-            record_in_front client number ends.end (held before.shard) (subst (λ l. Contains l number) (sym (ends.numbers sides.Backup)) has) in
+            record_in_front client number ends.end (held before.shard) (subst (λ l. Contains l number) (sym (ends.numbers)) has) in
             stands_there before.shard found.0 number found.2 found.3 (omega (arith, found.1, end_agreed before home ends))
       ]
 

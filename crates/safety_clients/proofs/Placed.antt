@@ -26,7 +26,7 @@ use Rattle.safety_clients.specs.Numbers.{StandsAt}
 use Rattle.safety_clients.specs.Records.{RunFrom}
 use Rattle.safety_clients.proofs.Agreeing.{agreed_known}
 use Rattle.safety_clients.proofs.Numbered.{rank, has_number, number_is, rank_rises}
-use Rattle.safety_clients.proofs.Records.{records_are_of_a_home}
+use Rattle.safety_clients.proofs.Records.{held_are_of_a_home}
 
 -- ---- owners
 
@@ -79,7 +79,7 @@ module _ (cfg : Config) (valid : IsValidConfig cfg) (past : Past) (run : IsPastO
 
   pub at_home : (position number : ℕ) (body : List ℕ) → (st : StandsAt cfg past position (records.Data client number body))
       → (first : ℕ) × AtHome st.owner.shard first position st.owner.local number body
-  at_home position number body st = elim (records_are_of_a_home cfg past valid run client st.owner.shard sides.Backup).of_home [
+  at_home position number body st = elim (held_are_of_a_home cfg past valid run client st.owner.shard).of_home [
     | inl none ↦ absurd (has_number client number body (held st.owner.shard) st.owner.local st.held none)
     | inr home ↦ (home.0, record { covered = st.covered; at = st.held; home = home.1; runs = home.2 })
   ]

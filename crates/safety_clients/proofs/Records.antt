@@ -17,7 +17,7 @@ use Rattle.runs.specs.Names.sides
 use Rattle.runs.specs.Names.records
 use Rattle.runs.specs.Names.whats
 use Rattle.runs.specs.Runs.{IsPastOf}
-use Rattle.runs.specs.Known.{log_at}
+use Rattle.runs.specs.Known.{log_at, held_log}
 use Rattle.runs.specs.Marks.{IsPrefix, log_by, number_of_client, numbers_of_client}
 use Rattle.runs.specs.Homes.{Home, homes_at}
 use Rattle.runs.proofs.SameNodes.{same_node_is}
@@ -224,3 +224,8 @@ of_side cfg valid past run client shard sides.Backup =
 
 pub records_are_of_a_home : OfEveryRun RecordsAreOfAHome
 records_are_of_a_home cfg past valid run = of_side cfg valid past run
+
+-- and of the log that counts
+pub held_are_of_a_home : (cfg : Config) (past : Past) → IsValidConfig cfg → IsPastOf cfg past → (client shard : ℕ)
+    → AreOfAHome (homes_at cfg client past) (bodies_at cfg client past) client shard (held_log cfg shard past)
+held_are_of_a_home cfg past valid run client shard = records_are_of_a_home cfg past valid run client shard sides.Backup

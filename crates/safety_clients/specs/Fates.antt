@@ -3,9 +3,9 @@ use Rattle.std.specs.Prelude.{◌≡◌, ℕ, ◌-◌, ◌≤◌, take, Contains
 use Rattle.std.specs.List.{range_with_len}
 use Rattle.cut_core.specs.Map.{gone_end}
 use Rattle.net_model.specs.Pasts.{Past, sent}
-use Rattle.runs.specs.Names.{NodeId, Side, Config, Message, What}
+use Rattle.runs.specs.Names.{NodeId, Config, Message, What}
 use Rattle.runs.specs.Names.whats
-use Rattle.runs.specs.Known.{agreed_after, log_at}
+use Rattle.runs.specs.Known.{agreed_after, held_log}
 use Rattle.runs.specs.Marks.{numbers_of_client}
 use Rattle.runs.specs.Homes.{homes_at}
 use Rattle.safety_frame.specs.Agreed.{agreed_list}
@@ -19,7 +19,7 @@ pub record IsFate (cfg : Config) (past : Past) (client shard next : ℕ) : Type 
   pub end : ℕ
   pub gone : gone_end (agreed_after cfg (agreed_list cfg past)) shard ≡ Some end
   pub rises : first ≤ next
-  pub numbers : (side : Side) → numbers_of_client client (take end (log_at cfg shard side past)) ≡ range_with_len first (next - first)
+  pub numbers : numbers_of_client client (take end (held_log cfg shard past)) ≡ range_with_len first (next - first)
 
 abbrev pub FateTells : Config → Past → ℕ → What → NodeId → Type 0
 FateTells cfg past shard (whats.Fate next) to = OfClient (λ client. IsFate cfg past client shard next) to
