@@ -1,10 +1,10 @@
 -- What every run's marks tell is true: of replicas, since what they take for durable is held, and of consumers.
-use Rattle.std.proofs.Common.{◌≡◌, ◌∙◌, ◌⊎◌, ℕ, ◌<◌, ◌≤◌, Bool, true, List, ◌∷◌, length, Some, refl, sym, ap, subst, inl, inr, arith, if◌then◌else◌}
+use Rattle.std.proofs.Common.{◌≡◌, ◌∙◌, ◌⊎◌, ℕ, ◌<◌, ◌≤◌, Bool, true, List, ◌∷◌, length, take, Some, refl, sym, ap, subst, inl, inr, arith, if◌then◌else◌}
 use Rattle.std.specs.Prelude.{IsTrue}
 use Rattle.std.specs.List.{AllByRecursion, slice_get}
 use Rattle.std.proofs.lemmas.Option.{slice_get_within}
 use Rattle.fix_ante.specs.declared.spots.Owner.{Owner}
-use Rattle.fix_ante.proofs.Entries.{slice_get-append_left}
+use Rattle.std.proofs.lemmas.List.{length-take-le}
 use Rattle.cut_core.specs.Agreements.{Agreement}
 use Rattle.cut_core.specs.Map.{map_of, covered_locals}
 use Rattle.cut_core.proofs.Dense.{slice_get-index_of}
@@ -31,8 +31,9 @@ use Rattle.safety_frame.proofs.NodeKinds.{after, sequencers, replicas, clients, 
 use Rattle.safety_frame.proofs.Pasts.{own_state, of_replica, of_consumer}
 use Rattle.safety_frame.proofs.StableItems.{known_is, log_is}
 use Rattle.safety_frame.proofs.StableParts.{replica_known}
-use Rattle.safety_logs.specs.Counting.{held_log, AreCommon, durable_at}
+use Rattle.safety_logs.specs.Counting.{held_log, durable_at}
 use Rattle.safety_logs.specs.Held.{IsDurableHeld}
+use Rattle.safety_logs.proofs.Fronts.{front_of, index_back}
 use Rattle.safety_logs.proofs.Growing.{held_grows}
 use Rattle.safety_logs.proofs.DurableLogs.{durable_is_held}
 use Rattle.safety_consumers.specs.Owned.{held_logs, IsSettled, MarkIsTrue, ConsumersMarkTells}
@@ -45,22 +46,25 @@ use Rattle.safety_marks.proofs.ReplicaMarks.{ConfirmsLocal, PromisesLocal, Tells
 -- ---- a replica's local, by what it takes for durable
 
 module _ (cfg : Config) (past : Past) (shard : ℕ) (side : Side) where
-  common_front : (len : ℕ) (are : AreCommon cfg past shard len) (side : Side) → IsPrefix are.front (log_at cfg shard side past)
-  common_front len are sides.Primary = are.primary
-  common_front len are sides.Backup = are.backup
+  -- up to here its log is the one that counts
+  abbrev IsHeldTo : ℕ → Type 0
+  IsHeldTo len =
+      (len ≤ length (held_log cfg shard past)) × (take len (log_at cfg shard side past) ≡ take len (held_log cfg shard past))
 
-  local_held : (len local : ℕ) (rec : Record) → AreCommon cfg past shard len → local < len → slice_get (log_at cfg shard side past) local ≡ Some rec
+  local_held : (len local : ℕ) (rec : Record) → IsHeldTo len → local < len → slice_get (log_at cfg shard side past) local ≡ Some rec
       → slice_get (held_log cfg shard past) local ≡ Some rec
-  local_held len local rec are below at =
-      let p = common_front len are side in
-      let there = sym (slice_get-append_left are.front p.0 local (omega (arith, below, are.long))) ∙ (sym (ap (λ l. slice_get l local) p.1) ∙ at) in
-      index_stays are.front (held_log cfg shard past) local rec are.backup there
+  local_held len local rec is below at =
+      let log = log_at cfg shard side past in
+      let held = held_log cfg shard past in
+      let long = length-take-le len held is.0 in
+      let there = index_back (take len log) log local rec (front_of len log) (omega (arith, below, long, ap length is.1)) at in
+      index_stays (take len held) held local rec (front_of len held) (subst (λ (l : List Record). slice_get l local ≡ Some rec) is.1 there)
 
   module _ (known : List Entry) where
     abbrev a : Agreement
     a = agreed_after cfg known
 
-    confirm_true : (len : ℕ) (position : ℕ) (rec : Record) → AreCommon cfg past shard len → covered_locals a shard ≤ len
+    confirm_true : (len : ℕ) (position : ℕ) (rec : Record) → IsHeldTo len → covered_locals a shard ≤ len
         → ConfirmsLocal a shard (log_at cfg shard side past) position rec → IsSettled (held_logs cfg past) a position rec
     confirm_true len position rec are covered is =
         let owner : Owner = record { shard = shard; local = is.local } in
@@ -69,7 +73,7 @@ module _ (cfg : Config) (past : Past) (shard : ℕ) (side : Side) where
         let stands = local_held len is.local rec are (omega (arith, is.covered, covered)) is.at in
         record { covered = below; owned = record { owner = owner; there = mapped-covered a position below ∙ there; stands = stands } }
 
-    promise_true : (len : ℕ) (position : ℕ) (rec : Record) → AreCommon cfg past shard len
+    promise_true : (len : ℕ) (position : ℕ) (rec : Record) → IsHeldTo len
         → PromisesLocal a (nodes.Shard shard side) len (log_at cfg shard side past) position rec → StandsAt cfg past known position rec
     promise_true len position rec are is = record {
       owner = record { shard = shard; local = is.local };
@@ -110,9 +114,9 @@ module _ (cfg : Config) (past : Past) (shard : ℕ) (side : Side) where
         (subst (λ (c : Config). TellsLocal (agreed_after c s.base.known) s.base.me s.own.durable s.own.log mark) named.0 tells))
 
     told_true : (mark : Mark) → TellsLocal (agreed_after cfg s.base.known) node s.own.durable log mark → MarkTells cfg past s.base.known mark
-    told_true (marks.Confirm position rec) is = confirm_true s.base.known durable position rec is_held.common covered is
+    told_true (marks.Confirm position rec) is = confirm_true s.base.known durable position rec (is_held.within, is_held.held) covered is
     told_true (marks.Promise position rec) is =
-        promise_true s.base.known durable position rec is_held.common
+        promise_true s.base.known durable position rec (is_held.within, is_held.held)
         (subst (λ (len : ℕ). PromisesLocal (agreed_after cfg s.base.known) node len log position rec) (durable_is is.primary) is)
     told_true (marks.Apply position rec) is = absurd is
     told_true _ is = tt

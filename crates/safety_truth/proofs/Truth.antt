@@ -22,7 +22,7 @@ use Rattle.safety_marks.proofs.MarksTell.{marks_tell}
 use Rattle.safety_clients.specs.Homes.{bodies_at}
 use Rattle.safety_clients.specs.Numbers.{StandsAt}
 use Rattle.safety_clients.proofs.Submitting.{bodies_are_submitted}
-use Rattle.safety_clients.proofs.Records.{records_are_of_a_home}
+use Rattle.safety_clients.proofs.Records.{held_are_of_a_home}
 use Rattle.safety_clients.proofs.Numbers.{numbers_are_in_order}
 use Rattle.safety_truth.proofs.Standing.{settled_stands, confirmed_covered}
 use Rattle.safety_truth.proofs.TrueAcks.{acks_are_true}
@@ -41,7 +41,7 @@ module _ (cfg : Config) (past : Past) (valid : IsValidConfig cfg) (run : IsPastO
       → slice_get (submissions_of (nodes.Client client) past) number ≡ Some body
   body_submitted position client number body confirmed =
       let at = stands position (records.Data client number body) confirmed in
-      let stored = (records_are_of_a_home cfg past valid run client at.owner.shard sides.Backup).submitted at.owner.local number body at.held in
+      let stored = (held_are_of_a_home cfg past valid run client at.owner.shard).submitted at.owner.local number body at.held in
       index_stays (bodies_at cfg client past) (submissions_of (nodes.Client client) past) number body (bodies_are_submitted cfg past valid run client) stored
 
   is_truthful : IsTruthful past
