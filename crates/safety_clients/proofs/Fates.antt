@@ -25,7 +25,7 @@ use Rattle.safety_frame.proofs.Pasts.{of_sequencer, of_client, of_consumer}
 use Rattle.safety_frame.proofs.Growth.{homes_grow}
 use Rattle.safety_frame.proofs.Lists.{all_true, begins_itself, member_stays}
 use Rattle.safety_frame.proofs.Senders.{every_sent}
-use Rattle.safety_logs.proofs.AgreedLists.{agreed_grows, same_take}
+use Rattle.safety_logs.proofs.AgreedLists.{agreed_grows, same_take, agreed_begins}
 use Rattle.safety_logs.specs.Counting.{durable_at}
 use Rattle.safety_logs.proofs.DurableLogs.{durable_is_held}
 use Rattle.safety_logs.proofs.Fronts.{front_of}
@@ -33,7 +33,7 @@ use Rattle.safety_logs.proofs.Growing.{held_grows}
 use Rattle.safety_clients.specs.Fates.{IsFate, FateTells, FatesTell}
 use Rattle.safety_clients.specs.Records.{RunFrom}
 use Rattle.safety_clients.specs.Telling.{OfShard}
-use Rattle.safety_clients.proofs.Agreeing.{agreed_begins, agreed_known, end_is, end_held}
+use Rattle.safety_clients.proofs.Agreeing.{agreed_known, end_is, end_held}
 use Rattle.safety_clients.proofs.Answering.{IsNextAfter, ClientIsTold, sends_tell}
 use Rattle.safety_clients.proofs.Fronts.{continues}
 use Rattle.safety_clients.proofs.Homes.{same_first}

@@ -30,7 +30,8 @@ use Rattle.safety_frame.proofs.Lists.{begins_on}
 use Rattle.safety_logs.specs.Counting.{held_log}
 use Rattle.safety_clients.specs.Numbers.{StandsAt, NumbersAreInOrder}
 use Rattle.safety_clients.specs.Records.{RunFrom}
-use Rattle.safety_clients.proofs.Agreeing.{agreed_begins, agreed_known, end_is}
+use Rattle.safety_logs.proofs.AgreedLists.{agreed_begins}
+use Rattle.safety_clients.proofs.Agreeing.{agreed_known, end_is}
 use Rattle.safety_clients.proofs.Chains.{EachLater, each_later, left_later}
 use Rattle.safety_clients.proofs.Counting.{AreOrderly, are_counted}
 use Rattle.safety_clients.proofs.Ends.{ends_next, BeginsPast, left_past}

@@ -1,4 +1,4 @@
--- Known lists in a run begin one list of chosen entries, and those of sequencers begin the agreed list, which grows at its end.
+-- Known lists in a run begin the agreed list, whose entries are chosen and which grows at its end.
 use Rattle.std.proofs.Common.{◌≡◌, ◌∙◌, ℕ, ◌≤◌, List, [], ◌∷◌, ◌++◌, length, take, refl, sym, ap, arith}
 use Rattle.std.proofs.lemmas.List.{take-append-le, take_all}
 use Rattle.msg_wire.specs.Valid.{IsValidConfig}
@@ -11,9 +11,9 @@ use Rattle.runs.specs.Marks.{IsPrefix}
 use Rattle.runs.specs.Chosen.{AreChosen, KnownIsAgreed}
 use Rattle.safety_frame.specs.Agreed.{agreed_list}
 use Rattle.safety_frame.proofs.Known.{agreed_is_longest}
-use Rattle.safety_frame.proofs.Lists.{begins_on, index_stays}
+use Rattle.safety_frame.proofs.Lists.{begins_on}
 use Rattle.safety_frame.proofs.Pasts.{known_grows}
-use Rattle.safety_agreement.proofs.KnownLists.{known_is_chosen}
+use Rattle.safety_agreement.proofs.KnownLists.{agreed_is_chosen}
 
 -- ---- beginnings of one list
 
@@ -37,22 +37,18 @@ taken_front xs ys p = same_take (length xs) xs ys p (omega arith) ∙ take_all (
 -- ---- of a run
 
 module _ (cfg : Config) (valid : IsValidConfig cfg) (past : Past) (run : IsPastOf cfg past) where
-  -- all known lists begin one
+  -- all known lists begin the agreed one
   pub whole : KnownIsAgreed cfg past
-  whole = (known_is_chosen cfg past valid run).one_list
-
-  pub agreed_begins : IsPrefix (agreed_list cfg past) whole.0
-  agreed_begins =
-      let was = (agreed_is_longest cfg past run).was_known in
-      begins_on (agreed_list cfg past) (known_at cfg (nodes.Seq was.0) past) whole.0 was.1 (whole.1.begins (nodes.Seq was.0))
+  whole = (agreed_list cfg past, agreed_is_chosen cfg past valid run)
 
   pub agreed_chosen : AreChosen cfg past (agreed_list cfg past)
-  agreed_chosen slot entry at = whole.1.chosen slot entry (index_stays (agreed_list cfg past) whole.0 slot entry agreed_begins at)
+  agreed_chosen = (agreed_is_chosen cfg past valid run).chosen
+
+  pub agreed_begins : (node : NodeId) → IsPrefix (known_at cfg node past) (agreed_list cfg past)
+  agreed_begins = (agreed_is_chosen cfg past valid run).begins
 
   pub sequencer_begins : (number : ℕ) → IsPrefix (known_at cfg (nodes.Seq number) past) (agreed_list cfg past)
-  sequencer_begins number =
-      shorter (known_at cfg (nodes.Seq number) past) (agreed_list cfg past) whole.0 (whole.1.begins (nodes.Seq number)) agreed_begins
-      ((agreed_is_longest cfg past run).longest number)
+  sequencer_begins number = agreed_begins (nodes.Seq number)
 
 pub agreed_grows : (cfg : Config) (valid : IsValidConfig cfg) (e : HistoryEntry) (past : Past) → IsPastOf cfg (e ∷ past)
     → IsPrefix (agreed_list cfg past) (agreed_list cfg (e ∷ past))

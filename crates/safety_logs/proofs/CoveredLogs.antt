@@ -26,7 +26,7 @@ use Rattle.safety_agreement.proofs.Chosen.{each_known_is_chosen}
 use Rattle.safety_logs.specs.Counting.{held_log, counted}
 use Rattle.safety_logs.specs.Cuts.{IsGoodAfter, IsGoodAt}
 use Rattle.safety_logs.specs.Held.{CoveredIsCommon}
-use Rattle.safety_logs.proofs.AgreedLists.{shorter, taken_front, whole, agreed_begins}
+use Rattle.safety_logs.proofs.AgreedLists.{taken_front, agreed_begins}
 use Rattle.safety_logs.proofs.Covering.{entry_counts}
 use Rattle.safety_logs.proofs.CutClauses.{cuts_are_good}
 use Rattle.safety_logs.proofs.Backups.{backup_is_a_prefix}
@@ -51,10 +51,9 @@ module _ (cfg : Config) (valid : IsValidConfig cfg) (past : Past) (run : IsPastO
       let is : IsGoodAt cfg past (length before) entry =
       (cuts_are_good cfg past valid run).accepted (nodes.Seq voter.0) (items.Accepted (length before) chosen.0 entry)
       (All-contains (HasAccepted cfg past (length before) chosen.0 entry) chosen.1 voter.0 chosen.3 voter.1) in
-      let one = whole cfg valid past run in
       let agreed : List Entry = agreed_list cfg past in
       let begins_agreed =
-      shorter before agreed one.0 (begins_on before known one.0 begins (one.1.begins node)) (agreed_begins cfg valid past run) is.agreed in
+      begins_on before known agreed begins (agreed_begins cfg valid past run node) in
       subst (λ l. IsGoodAfter cfg past l entry) (taken_front before agreed begins_agreed) is.good
 
   counted_on : (node : NodeId) (before rest : List Entry) → IsPrefix (before ++ rest) (known_at cfg node past)
