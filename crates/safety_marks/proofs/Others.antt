@@ -7,7 +7,6 @@ use Rattle.net_model.specs.Pasts.{Past}
 use Rattle.node_rules.specs.Names.{Mark, Event}
 use Rattle.node_rules.specs.Nodes.{Node}
 use Rattle.node_rules.specs.Turns.{step_of}
-use Rattle.node_rules.proofs.Lists.{all_push}
 use Rattle.seq_node.specs.States.{SequencerState}
 use Rattle.client_node.specs.States.{ClientState}
 use Rattle.client_node.proofs.Places.{Shows, acknowledged}
@@ -20,6 +19,7 @@ use Rattle.runs.specs.Names.marks
 use Rattle.runs.specs.Kinds.{step_at}
 use Rattle.runs.specs.Runs.{Follows}
 use Rattle.safety_frame.proofs.NodeKinds.{after, sequencers, clients, consumers}
+use Rattle.safety_frame.proofs.Clauses.{each_shown}
 use Rattle.safety_frame.proofs.Pasts.{of_sequencer, of_client}
 use Rattle.safety_marks.specs.Shown.{IsOther}
 
@@ -28,38 +28,14 @@ AllOther shown = AllByRecursion IsOther shown
 
 pub sequencer_shows : (n : Node SequencerState) (event : Event) → AllOther (sequencers.step n event).marks
 sequencer_shows n event =
-    sequencers.walk (λ t. AllOther t.marks) n event
-    (record {
-      starts = tt;
-      restarts = λ e. tt;
-      learns = λ t entry why w. w;
-      sees = λ t from slot count entry why w. w;
-      ticks = λ t why w. w;
-      asks = λ t to why w. w;
-      says = λ t to what why w. w;
-      shows = λ t mark why w. absurd why;
-      stores = λ t item own why w. w;
-      changes = λ t own why w. w;
-    })
+    each_shown sequencers IsOther n event (λ e. tt) (λ s mark why. absurd why)
 
 other_shown : (n : Node ClientState) (event : Event) (s : Node ClientState) (mark : Mark) → Shows n event s mark → IsOther mark
 other_shown n event s _ (acknowledged from number position comes counted) = tt
 
 pub client_shows : (n : Node ClientState) (event : Event) → AllOther (clients.step n event).marks
 client_shows n event =
-    clients.walk (λ t. AllOther t.marks) n event
-    (record {
-      starts = tt;
-      restarts = λ e. tt;
-      learns = λ t entry why w. w;
-      sees = λ t from slot count entry why w. w;
-      ticks = λ t why w. w;
-      asks = λ t to why w. w;
-      says = λ t to what why w. w;
-      shows = λ t mark why w. all_push IsOther t.marks mark w (other_shown n event t.state mark why);
-      stores = λ t item own why w. w;
-      changes = λ t own why w. w;
-    })
+    each_shown clients IsOther n event (λ e. tt) (other_shown n event)
 
 -- ---- consumers
 
@@ -77,19 +53,7 @@ no_promise n event s _ (consumer.written output some why) = tt
 
 pub consumer_shows : (n : Node (ConsumerState AnyApp)) (event : Event) → AllByRecursion IsNoPromise (consumers.step n event).marks
 consumer_shows n event =
-    consumers.walk (λ t. AllByRecursion IsNoPromise t.marks) n event
-    (record {
-      starts = tt;
-      restarts = λ e. (tt, tt);
-      learns = λ t entry why w. w;
-      sees = λ t from slot count entry why w. w;
-      ticks = λ t why w. w;
-      asks = λ t to why w. w;
-      says = λ t to what why w. w;
-      shows = λ t mark why w. all_push IsNoPromise t.marks mark w (no_promise n event t.state mark why);
-      stores = λ t item own why w. w;
-      changes = λ t own why w. w;
-    })
+    each_shown consumers IsNoPromise n event (λ e. (tt, tt)) (no_promise n event)
 
 -- ---- of an entry
 

@@ -18,7 +18,8 @@ use Rattle.safety_consumers.specs.Owned.{held_logs, IsOwned, IsSettled}
 use Rattle.safety_consumers.proofs.Covered.{confirmed_is_covered}
 use Rattle.safety_consumers.proofs.Settled.{confirmed_is_the_prefix}
 use Rattle.safety_clients.specs.Numbers.{StandsAt, AreCovered}
-use Rattle.safety_clients.proofs.Agreeing.{agreed_begins, agreed_known}
+use Rattle.safety_logs.proofs.AgreedLists.{agreed_begins}
+use Rattle.safety_clients.proofs.Agreeing.{agreed_known}
 use Rattle.safety_clients.proofs.Fronts.{continues}
 
 -- the record of a covered position stands there after more entries

@@ -8,7 +8,6 @@ use Rattle.msg_wire.specs.Nodes.{is_replica, is_client}
 use Rattle.msg_wire.specs.Valid.{IsValidConfig}
 use Rattle.net_model.specs.Pasts.{Past, Throughout}
 use Rattle.node_rules.specs.Nodes.{Node}
-use Rattle.node_rules.proofs.Lists.{all_push}
 use Rattle.node_rules.proofs.Places.{Comes}
 use Rattle.client_node.specs.States.{ClientState}
 use Rattle.client_node.proofs.Places.{Shows, acknowledged}
@@ -18,6 +17,7 @@ use Rattle.runs.specs.Names.whats
 use Rattle.runs.specs.Runs.{IsPastOf, Comes as ComesIn}
 use Rattle.runs.specs.Truth.{IsTrueAck, AcksAreTrue}
 use Rattle.safety_frame.specs.EveryRun.{OfEveryRun}
+use Rattle.safety_frame.proofs.Clauses.{each_shown}
 use Rattle.safety_frame.proofs.Heeding.{messages_are_heeded}
 use Rattle.safety_frame.proofs.Inductions.{every_past}
 use Rattle.safety_frame.proofs.Lists.{all_true}
@@ -57,19 +57,7 @@ module _ (cfg : Config) (valid : IsValidConfig cfg) (e : HistoryEntry) (past : P
 
     client_true : (n : Node ClientState) → AllByRecursion IsTrueHere (clients.step n e.event).marks
     client_true n =
-        clients.walk (λ t. AllByRecursion IsTrueHere t.marks) n e.event
-        (record {
-          starts = tt;
-          restarts = λ r. tt;
-          learns = λ t entry why w. w;
-          sees = λ t from slot count entry why w. w;
-          ticks = λ t why w. w;
-          asks = λ t to why w. w;
-          says = λ t to what why w. w;
-          shows = λ t mark why w. all_push IsTrueHere t.marks mark w (shown_true n t.state mark why);
-          stores = λ t item own why w. w;
-          changes = λ t own why w. w;
-        })
+        each_shown clients IsTrueHere n e.event (λ r. tt) (λ s mark why. shown_true n s mark why)
 
   entry_true : AcksAreTrue past e
   entry_true =
