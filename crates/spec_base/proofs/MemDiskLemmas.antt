@@ -8,7 +8,7 @@ use Rattle.spec_base.specs.declared.disk_call.DiskCall.TheVariants.{Sync}
 use Rattle.spec_base.specs.Crash.{Elapses, Follows, NoneNew}
 use Rattle.spec_base.specs.MemDisk.{overwritten, content_of, IsLeft, WasLeft}
 use Rattle.std.proofs.lemmas.Bool.{cases_lt}
-use Rattle.spec_base.specs.MemDiskLaws.{content_is_left}
+use Rattle.spec_base.specs.inside.MemDiskLaws.{content_is_left}
 
 -- nothing happened
 pub elapses_same : (calls : List DiskCall) → Elapses (length calls) (length calls) (WasLeft calls) (WasLeft calls) (IsLeft calls)

@@ -6,6 +6,6 @@ pub mod Memory
 pub mod Disk
 pub mod Crash
 pub mod MemDisk
-pub mod MemDiskLaws
 pub mod Shelf
 pub mod MemShelf
+pub mod inside

@@ -6,7 +6,7 @@ ghost use Rattle.spec_base.specs.Crash.{Only, SameOutcomes, NoneNew, Follows, El
 ghost use Rattle.spec_base.specs.declared.stop.Stop.TheVariants.{Failed};
 ghost use Rattle.spec_base.specs.MemDisk.{failures_in_a_row, overwritten, content_of, IsLeft, WasLeft};
 ghost use Rattle.spec_base.specs.declared.disk_call.DiskCall.TheVariants.{Write, Sync};
-ghost use Rattle.spec_base.specs.MemDiskLaws.{content_is_left, now_was_left, only_last, at_most_two};
+ghost use Rattle.spec_base.specs.inside.MemDiskLaws.{content_is_left, now_was_left, only_last, at_most_two};
 
 use crate::copying::copy_front;
 use crate::disk::Disk;

@@ -124,7 +124,7 @@ impl Shelf for MemShelf {
     type D = MemDisk;
 
     ghost use Rattle.spec_base.specs.MemShelf.{faults_of, told_row, failures_of, given_of, is_out_of, kept_of, fails_of, calls_for};
-    ghost use Rattle.spec_base.specs.MemDiskLaws.{at_most_two};
+    ghost use Rattle.spec_base.specs.inside.MemDiskLaws.{at_most_two};
 
     ghost faults = { faults_of };
 
