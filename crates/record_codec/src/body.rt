@@ -39,7 +39,7 @@ impl Model for Body {
     ghost Value = { List ℕ };
 
     ghost use Rattle.std.specs.Prelude.{length, ◌≤◌};
-    ghost use Rattle.record_codec.specs.Kept.{kept_bytes, IsKept};
+    ghost use Rattle.record_codec.specs.inside.Kept.{kept_bytes, IsKept};
 
     ghost view = { λ b. kept_bytes b.kept };
 
