@@ -2,7 +2,7 @@ ghost use Rattle.std.specs.Prelude.{◌≡◌, ◌<◌, [], ◌++◌, IfOk, OnOk
 ghost use mathlib.Core.List.{IsPrefix};
 ghost use Rattle.rtrb.specs.Ring.{sent, received, known_items, producer_capacity, IsPair, SameProducer, SameConsumer};
 ghost use Rattle.node_links.specs.Links.{queued};
-ghost use Rattle.node_links.specs.Passes.{Passes};
+ghost use Rattle.node_links.specs.inside.Passes.{Passes};
 
 use crate::frame::Frame;
 use crate::link_in::LinkIn;

@@ -2,7 +2,7 @@ use Rattle.std.proofs.Common.{◌≡◌, ◌++◌, []}
 use Rattle.std.specs.VecDeque.{deque_len}
 use mathlib.Core.List.{IsPrefix}
 use Rattle.rtrb.specs.Ring.{sent, received, known_items, SameProducer, SameConsumer}
-use Rattle.node_links.specs.Passes.{Passes}
+use Rattle.node_links.specs.inside.Passes.{Passes}
 use Rattle.node_links.proofs.link.carry.Given as goal
 
 abbrev pub decreases-loop-out : goal.decreases-loop-out

@@ -1,7 +1,7 @@
 use Rattle.std.proofs.Common.{◌≡◌, ◌+◌, ◌≤◌, ◌++◌, length}
 use Rattle.std.specs.VecDeque.{deque_len, deque_capacity}
 use Rattle.rtrb.specs.Ring.{sent, received, known_items, SameConsumer}
-use Rattle.node_links.specs.Passes.{Passes}
+use Rattle.node_links.specs.inside.Passes.{Passes}
 use Rattle.node_links.proofs.link.empty.Given as goal
 
 abbrev pub invariant-loop : goal.invariant-loop
