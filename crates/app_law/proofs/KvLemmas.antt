@@ -13,7 +13,7 @@ use Rattle.std.proofs.lemmas.Map.Text.{is_eq-slice_cmp}
 use Rattle.std.proofs.lemmas.Slice.Eq.{bytes_eq-Decides}
 use Rattle.app_law.specs.declared.kv.KvEntry.{KvEntry}
 use Rattle.app_law.specs.declared.kv.KvUndo.TheVariants.{Was}
-use Rattle.app_law.specs.KvEntries.{pairs_of, value_under}
+use Rattle.app_law.specs.inside.KvEntries.{pairs_of, value_under}
 use Rattle.app_law.specs.KvStates.{KvState, IsKeyed}
 use Rattle.app_law.specs.Kvs.{is_full_for, with_value, kv_restored}
 

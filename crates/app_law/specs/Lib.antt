@@ -1,10 +1,10 @@
 pub mod AnyApps
 pub mod Banks
 pub mod Folds
-pub mod KvEntries
 pub mod KvOrders
 pub mod Kvs
 pub mod KvStates
 pub mod Positions
 pub mod Tallies
 pub mod Words
+pub mod inside

@@ -2,7 +2,7 @@ ghost use Rattle.std.specs.Prelude.{◌≡◌, ◌≤◌, ◌++◌, ◌+◌, len
 ghost use Rattle.std.specs.Option.{option_copied};
 ghost use Rattle.std.specs.Str.{bytes_eq};
 ghost use Rattle.std.specs.FinMap as finite;
-ghost use Rattle.app_law.specs.KvEntries.{value_under};
+ghost use Rattle.app_law.specs.inside.KvEntries.{value_under};
 ghost use Rattle.app_law.specs.KvOrders.{kv_order_of};
 ghost use Rattle.app_law.specs.Kvs.{is_full_for, with_value, kv_after, kv_answer, kv_restored};
 ghost use Rattle.app_law.specs.Words.{words};
@@ -51,7 +51,7 @@ impl Model for Kv {
 
     ghost coded = { finite.code (coded_list coded_ℕ) (coded_list coded_ℕ) };
 
-    ghost use Rattle.app_law.specs.KvEntries.{pairs_of};
+    ghost use Rattle.app_law.specs.inside.KvEntries.{pairs_of};
 
     ghost view = { λ kv. finite.from_entries (pairs_of kv.entries.items) };
 

@@ -1,5 +1,5 @@
 use Rattle.std.proofs.Common.{◌≡◌, drop}
-use Rattle.app_law.specs.KvEntries.{value_under}
+use Rattle.app_law.specs.inside.KvEntries.{value_under}
 use Rattle.app_law.proofs.kv.value_in.Given as goal
 
 abbrev pub invariant-loop-entry : goal.invariant-loop-entry

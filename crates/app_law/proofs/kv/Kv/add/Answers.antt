@@ -1,7 +1,7 @@
 use Rattle.std.proofs.Common.{◌≡◌, ◌<◌, ◌≤◌, length, ap, sym, ◌∙◌, arith, lit<}
 use Rattle.std.proofs.lemmas.List.{length-map}
 use Rattle.std.specs.FinMap as finite
-use Rattle.app_law.specs.KvEntries.{pairs_of}
+use Rattle.app_law.specs.inside.KvEntries.{pairs_of}
 use Rattle.app_law.proofs.KvLemmas.{IsKeyed-push, map-push, get-pairs, len-pairs}
 use Rattle.app_law.proofs.kv.Kv.add.Goals as goal
 

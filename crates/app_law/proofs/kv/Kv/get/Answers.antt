@@ -1,6 +1,6 @@
 use Rattle.std.proofs.Common.{ap, sym, ◌∙◌}
 use Rattle.std.specs.FinMap as finite
-use Rattle.app_law.specs.KvEntries.{pairs_of, value_under}
+use Rattle.app_law.specs.inside.KvEntries.{pairs_of, value_under}
 use Rattle.app_law.proofs.KvLemmas.{value_under-find, get-pairs}
 use Rattle.app_law.proofs.kv.Kv.get.Goals as goal
 
