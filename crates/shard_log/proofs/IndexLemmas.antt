@@ -7,8 +7,8 @@ use Rattle.std.specs.Option.{option_or}
 use Rattle.std.proofs.lemmas.List.Sorted.{IsNonDecreasingBy-push}
 use Rattle.shard_log.specs.declared.index.ClientIndex.TheInside.{Inside}
 use Rattle.shard_log.specs.declared.index.Place.{Place}
-use Rattle.shard_log.specs.Places.{first_with, local_with}
-use Rattle.shard_log.specs.Index.{IsIndex}
+use Rattle.shard_log.specs.inside.Places.{first_with, local_with}
+use Rattle.shard_log.specs.inside.Index.{IsIndex}
 use Rattle.shard_log.proofs.PlaceLemmas.{first_with-push}
 
 -- a place at the end, no lower than those before it, and the first local of each number with it

@@ -9,8 +9,8 @@ use Rattle.record_codec.specs.declared.record.Record.TheVariants.{Data, Noop}
 use Rattle.shard_log.specs.declared.index.Place.{Place}
 use Rattle.record_codec.specs.Records.{IsValidRecord}
 use Rattle.shard_log.specs.Records.{number_by}
-use Rattle.shard_log.specs.Places.{place_by, places_from, places_of, last_below, first_with}
-use Rattle.shard_log.specs.Insides.{IsIndexed}
+use Rattle.shard_log.specs.inside.Places.{place_by, places_from, places_of, last_below, first_with}
+use Rattle.shard_log.specs.inside.Kept.{IsIndexed}
 use Rattle.shard_log.proofs.PlaceLemmas.{option_or-none, cons_option-nil}
 use Rattle.shard_log.specs.ShardLog.{last_of, local_of}
 

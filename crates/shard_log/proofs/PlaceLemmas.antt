@@ -6,7 +6,7 @@ use Rattle.std.specs.List.Sorted.{IsPartitionPoint}
 use Rattle.std.proofs.lemmas.List.{get_or-drop, length-drop, take-append-drop, length-take-le, get_or-take}
 use Rattle.std.proofs.lemmas.Option.{slice_get-get_or}
 use Rattle.shard_log.specs.declared.index.Place.{Place}
-use Rattle.shard_log.specs.Places.{last_below, first_with, number_below, local_with}
+use Rattle.shard_log.specs.inside.Places.{last_below, first_with, number_below, local_with}
 
 pub option_or_assoc : {T : Type 0} (a b c : Option T) → option_or (option_or a b) c ≡ option_or a (option_or b c)
 option_or_assoc None b c = refl

@@ -4,7 +4,7 @@ ghost use Rattle.std.specs.Option.{option_or};
 ghost use Rattle.std.specs.Prelude.{ℕ, ◌≡◌, ◌≤◌, ◌++◌, ◌∷◌, [], nat_lt, true, false, length, OnOk, OnErr, All};
 ghost use Rattle.std.specs.List.Sorted.{IsNonDecreasingBy, IsPartitionPoint};
 ghost use Rattle.shard_log.specs.declared.index.Place.{Place};
-ghost use Rattle.shard_log.specs.Places.{last_below, first_with, local_with};
+ghost use Rattle.shard_log.specs.inside.Places.{last_below, first_with, local_with};
 
 use quota_table::OutOfMemory;
 use std::alloc::Global;
@@ -33,7 +33,7 @@ impl Model for ClientIndex {
 
     ghost Value = { List Place };
 
-    ghost use Rattle.shard_log.specs.Index.{IsIndex};
+    ghost use Rattle.shard_log.specs.inside.Index.{IsIndex};
 
     ghost view = { λ i. i.places.items };
 

@@ -3,7 +3,7 @@ ghost use Rattle.std.specs.Option.{option_copied, option_to_list};
 ghost use Rattle.record_codec.specs.declared.record.Record.TheVariants.{Data};
 ghost use Rattle.shard_log.specs.declared.index.Place.{Place as PlaceOf};
 ghost use Rattle.record_codec.specs.Records.{IsValidRecord};
-ghost use Rattle.shard_log.specs.Places.{places_of, place_by};
+ghost use Rattle.shard_log.specs.inside.Places.{places_of, place_by};
 ghost use Rattle.shard_log.specs.ShardLog.{last_of, next_of, local_of, append_from_answer, append_from_log, append_noop_log, append_at_answer, append_at_log};
 
 use crate::answers::{Appended, Grown};
@@ -31,7 +31,7 @@ impl Model for ShardLog {
 
     ghost Value = { List Record };
 
-    ghost use Rattle.shard_log.specs.Insides.{IsIndexed};
+    ghost use Rattle.shard_log.specs.inside.Kept.{IsIndexed};
 
     ghost view = { λ l. l.records.items };
 

@@ -1,5 +1,5 @@
 use Rattle.std.proofs.Common.{◌≡◌, take, ap, ◌∙◌}
-use Rattle.shard_log.specs.Places.{last_below}
+use Rattle.shard_log.specs.inside.Places.{last_below}
 use Rattle.shard_log.specs.ShardLog.{last_of}
 use Rattle.record_codec.specs.Records.{IsValidRecord}
 use Rattle.shard_log.proofs.LogLemmas.{last_below-places_of, last_of-valid}

@@ -1,5 +1,5 @@
 use Rattle.std.proofs.Common.{ap, ◌∙◌}
-use Rattle.shard_log.specs.Places.{first_with}
+use Rattle.shard_log.specs.inside.Places.{first_with}
 use Rattle.shard_log.proofs.LogLemmas.{first_with-places_of}
 use Rattle.shard_log.proofs.log.ShardLog.local_of.Goals as goal
 

@@ -1,6 +1,6 @@
 use Rattle.std.proofs.Common.{◌≡◌, ◌++◌, ◌∷◌, [], length, get_or, ap, ◌∙◌, arith}
 use Rattle.std.specs.Option.{option_to_list}
-use Rattle.shard_log.specs.Places.{place_by}
+use Rattle.shard_log.specs.inside.Places.{place_by}
 use Rattle.shard_log.proofs.LogLemmas.{IsIndexed-push, places_of-below}
 use Rattle.shard_log.proofs.log.ShardLog.push.Goals as goal
 

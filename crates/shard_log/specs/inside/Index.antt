@@ -5,7 +5,7 @@ use Rattle.std.specs.Ordering.{nat_cmp}
 use Rattle.std.specs.List.Sorted.{IsNonDecreasingBy}
 use Rattle.shard_log.specs.declared.index.ClientIndex.TheInside.{Inside}
 use Rattle.shard_log.specs.declared.index.Place.{Place}
-use Rattle.shard_log.specs.Places.{first_with}
+use Rattle.shard_log.specs.inside.Places.{first_with}
 
 -- the places stand in order of local, and the map has the first local of each number
 pub record IsIndex (i : Inside) : Type 0 where
