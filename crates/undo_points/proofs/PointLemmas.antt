@@ -10,7 +10,7 @@ use Rattle.app_law.proofs.PositionLemmas.{below-push, from_on-push, below-past, 
 use Rattle.app_law.proofs.EndLemmas.{Newest, Oldest}
 use Rattle.app_law.specs.Positions.{IsPast}
 use Rattle.undo_points.specs.Points.{Points, point_position, pushed, points_below, points_from, taken_back, Gave}
-use Rattle.undo_points.specs.Steps.{TakesNewest, DropsOldest}
+use Rattle.undo_points.specs.inside.Steps.{TakesNewest, DropsOldest}
 
 lower_or_not : (m n : ℕ) → (m < n) ⊎ (n ≤ m)
 lower_or_not m n = elim (nat_lt m n) as (λ b. nat_lt m n ≡ b → (m < n) ⊎ (n ≤ m)) [

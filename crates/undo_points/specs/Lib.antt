@@ -1,4 +1,4 @@
 pub mod Points
-pub mod Steps
+pub mod inside
 pub use Rattle.app_law.specs.Folds
 pub use Rattle.app_law.specs.Positions

@@ -3,7 +3,7 @@ ghost use Rattle.record_codec.specs.declared.record.Record.{Record};
 ghost use Rattle.app_law.specs.Folds.{fold_of};
 ghost use Rattle.app_law.specs.Positions.{below, from_on, IsPast};
 ghost use Rattle.undo_points.specs.Points.{point_position, pushed, points_below, points_from, taken_back, Gave};
-ghost use Rattle.undo_points.specs.Steps.{TakesNewest, DropsOldest};
+ghost use Rattle.undo_points.specs.inside.Steps.{TakesNewest, DropsOldest};
 
 use app_law::App;
 use quota_table::OutOfMemory;
