@@ -7,7 +7,7 @@ use prog.Atomic.{either}
 use Rattle.logbook.specs.Pages.{Cell, cell, keeps, no_nib, step, Moves, Goes}
 use Rattle.view_cell.specs.declared.look.Look.{Look}
 use Rattle.view_cell.specs.Looks.{IsHistory, newest_of, last_number}
-use Rattle.view_cell.specs.History.{IsKept, Adds}
+use Rattle.view_cell.specs.inside.History.{IsWritten, Adds}
 use Rattle.view_cell.proofs.Rising.{history_whole, history_more, number_more}
 
 abbrev pub shown : List Look → List Look
@@ -18,7 +18,7 @@ moved xs ys n = Unit {0}
 
 pub adds_goes : (log v : List Look) (x e : Look) → newest_of v ≡ Some x → x.ops < e.ops → IsHistory log → IsPrefix v log
     → (b : Bool) → (last_number 0 log == x.ops) ≡ b
-    → Goes IsKept shown moved 0 (v, (no_nib, None)) (λ n. either (n == x.ops) e.ops n) (Adds (step 0 x.ops e.ops e) (v, (no_nib, None))) ((last_number 0 log, true) ∷ []) log
+    → Goes IsWritten shown moved 0 (v, (no_nib, None)) (λ n. either (n == x.ops) e.ops n) (Adds (step 0 x.ops e.ops e) (v, (no_nib, None))) ((last_number 0 log, true) ∷ []) log
 adds_goes log v x e newest up history pre true is =
     let here : last_number 0 log ≡ x.ops = grind (arith, nat_tests) in
     let same : v ≡ log = history_whole v log x history pre newest here in
@@ -46,7 +46,7 @@ adds_goes log v x e newest up history pre false is =
 
 -- whatever the book is, the exchange adds the look to all that was seen, or finds another number
 pub adds_moves : (v : List Look) (x e : Look) → newest_of v ≡ Some x → x.ops < e.ops
-    → Moves IsKept shown moved 0 (v, (no_nib, None)) (λ n. either (n == x.ops) e.ops n) (Adds (step 0 x.ops e.ops e) (v, (no_nib, None)))
+    → Moves IsWritten shown moved 0 (v, (no_nib, None)) (λ n. either (n == x.ops) e.ops n) (Adds (step 0 x.ops e.ops e) (v, (no_nib, None)))
 adds_moves v x e newest up cs log kept pre away =
-    let P : List Cell → Type 0 = λ c. (0 < length c) × ((cell c 0).1 ≡ true) × Goes IsKept shown moved 0 (v, (no_nib, None)) (λ n. either (n == x.ops) e.ops n) (Adds (step 0 x.ops e.ops e) (v, (no_nib, None))) c log in
+    let P : List Cell → Type 0 = λ c. (0 < length c) × ((cell c 0).1 ≡ true) × Goes IsWritten shown moved 0 (v, (no_nib, None)) (λ n. either (n == x.ops) e.ops n) (Adds (step 0 x.ops e.ops e) (v, (no_nib, None))) c log in
     subst P (sym kept.words) (omega arith, refl, adds_goes log v x e newest up kept.history pre (last_number 0 log == x.ops) refl)

@@ -7,7 +7,7 @@ use Rattle.atomic_table.proofs.Lists.{at_set, at_snoc}
 use Rattle.view_cell.specs.declared.published.Published.{Published}
 use Rattle.view_cell.specs.declared.cell.Knows.{Knows}
 use Rattle.view_cell.proofs.Rising.{number_more}
-use Rattle.view_cell.specs.Cell.{newcomer, Fits, Keeps, handing, Looked, informed}
+use Rattle.view_cell.specs.inside.Cell.{newcomer, Fits, Keeps, handing, Looked, informed}
 
 new_fits : (x : Published) → Fits x newcomer
 new_fits x = record { book = λ tracked. absurd (true≢false (sym tracked)); rises = zero-le }

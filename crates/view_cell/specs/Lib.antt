@@ -1,4 +1,3 @@
 pub mod Looks
 pub mod Ends
-pub mod History
-pub mod Cell
+pub mod inside

@@ -3,7 +3,7 @@ ghost use Rattle.std.specs.Prelude.{◌≡◌, ◌≤◌, ◌++◌, ◌∷◌, [
 ghost use mathlib.Core.List.{IsPrefix};
 ghost use Rattle.left_right.specs.Sides.{view};
 ghost use Rattle.view_cell.specs.Looks.{IsHistory, newest_of, last_number, later_of};
-ghost use Rattle.view_cell.specs.History.{word_of};
+ghost use Rattle.view_cell.specs.inside.History.{word_of};
 
 use crate::history::{Head, Token};
 use crate::look::Look;
@@ -26,7 +26,7 @@ pub(crate) struct Knows {
 pub(crate) struct OneBook;
 
 impl Protocol<Published, Knows> for OneBook {
-    ghost use Rattle.view_cell.specs.Cell.{Keeps, newcomer};
+    ghost use Rattle.view_cell.specs.inside.Cell.{Keeps, newcomer};
 
     ghost holds = { Keeps };
 
@@ -37,7 +37,7 @@ impl Protocol<Published, Knows> for OneBook {
 pub(crate) struct Sees;
 
 impl Outcome<Published, Knows> for Sees {
-    ghost use Rattle.view_cell.specs.Cell.{Looked};
+    ghost use Rattle.view_cell.specs.inside.Cell.{Looked};
 
     ghost then = { Looked };
 }
@@ -52,7 +52,7 @@ impl Split<Knows> for Notes {
 }
 
 impl Join<Knows> for Notes {
-    ghost use Rattle.view_cell.specs.Cell.{informed, newcomer};
+    ghost use Rattle.view_cell.specs.inside.Cell.{informed, newcomer};
 
     ghost both = { informed };
 

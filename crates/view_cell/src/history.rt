@@ -1,7 +1,7 @@
 //! The history of the looks that were published: a book whose one word is the number of the newest.
 ghost use Rattle.std.specs.Prelude.{◌≡◌, ◌<◌, ◌++◌, ◌∷◌, [], IfSome};
 ghost use Rattle.view_cell.specs.Looks.{IsHistory};
-ghost use Rattle.view_cell.specs.History.{word_of};
+ghost use Rattle.view_cell.specs.inside.History.{word_of};
 
 use crate::look::Look;
 use crate::published::Published;
@@ -19,9 +19,9 @@ pub(crate) struct Law;
 impl Rule<Look, u64> for Law {
     ghost use Rattle.std.specs.Prelude.{[]};
     ghost use base.Fml.{ftrue};
-    ghost use Rattle.view_cell.specs.History.{IsKept};
+    ghost use Rattle.view_cell.specs.inside.History.{IsWritten};
 
-    ghost holds = { λ cells log. IsKept cells log };
+    ghost holds = { λ cells log. IsWritten cells log };
 
     ghost first = { [] };
 
@@ -47,7 +47,7 @@ impl Gain<Look, u64> for Nothing {
 pub(crate) struct Added;
 
 impl Play<Look, u64> for Added {
-    ghost use Rattle.view_cell.specs.History.{Adds};
+    ghost use Rattle.view_cell.specs.inside.History.{Adds};
 
     ghost then = { Adds };
 }

@@ -4,7 +4,7 @@ ghost use Rattle.std.specs.List.{All, Contains};
 ghost use mathlib.Core.List.{IsPrefix};
 ghost use Rattle.left_right.specs.Sides.{view};
 ghost use Rattle.view_cell.specs.Looks.{IsHistory, newest_of, last_number, later_of};
-ghost use Rattle.view_cell.specs.History.{word_of};
+ghost use Rattle.view_cell.specs.inside.History.{word_of};
 
 use crate::cell::{CellReader, glance, take_later};
 use crate::history::Token;
@@ -27,7 +27,7 @@ impl Model for ReaderPass {
     ghost use Rattle.std.specs.List.{All, Contains};
     ghost use Rattle.left_right.specs.Sides.{view as knows};
     ghost use Rattle.view_cell.specs.Looks.{IsHistory, newest_of};
-    ghost use Rattle.view_cell.specs.History.{word_of};
+    ghost use Rattle.view_cell.specs.inside.History.{word_of};
     ghost use Rattle.view_cell.specs.Ends.{Watching};
 
     ghost Value = { Watching };

@@ -23,7 +23,7 @@ impl<R: Wait + Drop> Model for Publisher<R> {
     ghost use Rattle.std.specs.Prelude.{◌≡◌, [], drop};
     ghost use Rattle.left_right.specs.Sides.{view as knows};
     ghost use Rattle.view_cell.specs.Looks.{IsHistory};
-    ghost use Rattle.view_cell.specs.History.{word_of};
+    ghost use Rattle.view_cell.specs.inside.History.{word_of};
     ghost use Rattle.view_cell.specs.Ends.{Showing};
 
     ghost Value = { Showing };

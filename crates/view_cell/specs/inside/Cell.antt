@@ -3,7 +3,7 @@ use Rattle.std.specs.Prelude.{◌≡◌, ℕ, ◌≤◌, true, false, List, [], 
 use mathlib.Core.Option.{some}
 use lib.ListN.{get_elem?}
 use Rattle.view_cell.specs.Looks.{last_number}
-use Rattle.view_cell.specs.History.{word_of}
+use Rattle.view_cell.specs.inside.History.{word_of}
 use Rattle.view_cell.specs.declared.published.Published.{Published}
 use Rattle.view_cell.specs.declared.cell.Knows.{Knows}
 

@@ -5,7 +5,7 @@ use Rattle.view_cell.specs.declared.look.Look.{Look}
 use Rattle.view_cell.specs.Looks.{IsHistory, last_number}
 
 -- the book's word is the number of the last look of the history
-pub record IsKept (cells : List Cell) (log : List Look) : Type 0 where
+pub record IsWritten (cells : List Cell) (log : List Look) : Type 0 where
   pub words : cells ≡ (last_number 0 log, true) ∷ []
   pub history : IsHistory log
 
