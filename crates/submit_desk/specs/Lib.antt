@@ -1,3 +1,3 @@
 pub mod Passes
 pub mod Rule
-pub mod Several
+pub mod inside

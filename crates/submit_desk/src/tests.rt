@@ -1,6 +1,6 @@
 ghost use Rattle.std.specs.Prelude.{◌≡◌, ◌≤◌, ◌+◌, ◌++◌, ◌∷◌, [], true, length, IfOk};
 ghost use Rattle.submit_desk.specs.Passes.{submitter, IsFresh, IsSubmitting};
-ghost use Rattle.submit_desk.specs.Several.{TwoAreFresh, FourAreFresh, TwoSubmit, FourSubmit};
+ghost use Rattle.submit_desk.specs.inside.Several.{TwoAreFresh, FourAreFresh, TwoSubmit, FourSubmit};
 
 use crate::{Desk, DeskItem, DeskPass, Full};
 use quota_table::OutOfMemory;
