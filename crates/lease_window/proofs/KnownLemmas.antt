@@ -21,7 +21,7 @@ use Rattle.cut_core.proofs.GoneEnds.{IsEnded, IsEnded-applied}
 use Rattle.cut_core.proofs.Consistent.{IsConsistent-sound}
 use Rattle.lease_window.specs.declared.known.Known.TheInside.{Inside}
 use Rattle.lease_window.specs.Known.{KnownEntries, agreed_of}
-use Rattle.lease_window.specs.Insides.{known_of, IsKnown}
+use Rattle.lease_window.specs.inside.Kept.{known_of, IsKnown}
 use Rattle.lease_window.proofs.LeaseLemmas.{each_some}
 
 -- ---- the agreed state that is kept is that of the entries

@@ -16,7 +16,7 @@ use Rattle.cut_core.proofs.Indices.{option_or-some, option_or-none, index_of-som
 use Rattle.cut_core.proofs.Parts.{place_in_grant, leased-parts, place-rest}
 use Rattle.cut_core.proofs.Numbers.{IsNumbered, numbers-covered, numbers-current, numbers-granted, length-numbers_of}
 use Rattle.lease_window.specs.declared.lease.Lease.{Lease}
-use Rattle.lease_window.specs.Leases.{numbered, lease_of, lease_in}
+use Rattle.lease_window.specs.inside.Leases.{numbered, lease_of, lease_in}
 
 abbrev lease : ℕ → ℕ → Lease
 lease number position = record { window = number; position = position }

@@ -1,3 +1,2 @@
 pub mod Known
-pub mod Leases
-pub mod Insides
+pub mod inside

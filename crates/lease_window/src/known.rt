@@ -8,7 +8,7 @@ ghost use Rattle.cut_core.specs.Fold.{HasValidTable};
 ghost use Rattle.cut_core.specs.Soundness.{IsFirst, IsSound};
 ghost use Rattle.cut_core.specs.Consistency.{IsConsistent};
 ghost use Rattle.lease_window.specs.Known.{known_from, with_entry, agreed_of};
-ghost use Rattle.lease_window.specs.Leases.{lease_of, lease_in};
+ghost use Rattle.lease_window.specs.inside.Leases.{lease_of, lease_in};
 ghost use Rattle.lease_window.specs.declared.errors.LearnError.TheVariants.{Gap, Old, OutOfMemory as NoRoom};
 ghost use Rattle.lease_window.specs.declared.lease.Lease.{Lease as LeaseOf};
 
@@ -41,7 +41,7 @@ impl Model for Known {
 
     ghost Value = { KnownEntries };
 
-    ghost use Rattle.lease_window.specs.Insides.{IsKnown};
+    ghost use Rattle.lease_window.specs.inside.Kept.{IsKnown};
 
     ghost view = { λ k. record { first = k.first; entries = k.entries.items } };
 
