@@ -4,7 +4,7 @@ use Rattle.std.proofs.lemmas.List.{take_at, drop_at, drop_all, drop_more, take-t
 use Rattle.std.proofs.lemmas.Bool.{cases_eq}
 use Rattle.spec_base.specs.Disk.{Torn}
 use Rattle.gate_vault.specs.File.{head, payload, frames, gate_after, StandsFor, StandsWithGate, StandsClosed, AreShort, IsBeforeOrAfter}
-use Rattle.gate_vault.specs.Put.{WrittenOver}
+use Rattle.gate_vault.specs.inside.Writes.{WrittenOver}
 
 -- the head and the frames of these entries
 abbrev pub body : List (List ℕ) → List ℕ

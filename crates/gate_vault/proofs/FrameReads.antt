@@ -2,7 +2,7 @@
 use Rattle.std.proofs.Common.{◌≡◌, inl, inr, sym, ap, ◌∙◌, subst, ℕ, ◌+◌, ◌/◌, ◌%◌, ◌≤◌, ◌<◌, List, [], ◌∷◌, ◌++◌, length, take, drop, arith, take-append-drop, append_assoc}
 use Rattle.std.proofs.lemmas.List.{drop-drop, length-take}
 use Rattle.gate_vault.specs.File.{payload, IsClosed}
-use Rattle.gate_vault.specs.Frames.{IsBadFrame, HasLength}
+use Rattle.gate_vault.specs.inside.Frames.{IsBadFrame, HasLength}
 use Rattle.gate_vault.proofs.FrameBytes.{body, body-append}
 
 pub closed_at : (bytes start : List ℕ) → start ≡ take 3 bytes → IsClosed start → IsClosed bytes

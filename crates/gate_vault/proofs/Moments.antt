@@ -3,7 +3,8 @@ use Rattle.std.proofs.Common.{◌≡◌, inl, inr, refl, sym, ◌∙◌, subst, 
 use Rattle.spec_base.specs.Disk.{Torn, Told}
 use Rattle.spec_base.specs.Crash.{Only, Follows, Elapses, LeavesOnly}
 use Rattle.spec_base.proofs.MemDiskLemmas.{torn_none}
-use Rattle.gate_vault.specs.Put.{WrittenOver, IsPut, IsTornPut}
+use Rattle.gate_vault.specs.inside.Writes.{WrittenOver, IsPut}
+use Rattle.gate_vault.specs.Put.{IsTornPut}
 use Rattle.gate_vault.proofs.Again.{torn_then, torn_written, elapses_then, elapses_widened}
 
 -- a disk that tells its bytes before a call tells them after it

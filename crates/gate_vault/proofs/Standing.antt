@@ -3,8 +3,7 @@ use Rattle.std.proofs.Common.{◌≡◌, ◌≢◌, inl, inr, refl, sym, ap, ◌
 use Rattle.std.specs.Prelude.{slice_get, Option}
 use Rattle.gate_vault.specs.declared.errors.VaultError.{VaultError}
 use Rattle.gate_vault.specs.declared.errors.VaultError.TheVariants.{Broken, TooLong, DiskFault, NotAVault, Damaged, OutOfMemory}
-use Rattle.gate_vault.specs.Stops.{IsStop}
-use Rattle.gate_vault.specs.Frames.{RefusesFile}
+use Rattle.gate_vault.specs.Stops.{IsStop, RefusesFile}
 use Rattle.std.proofs.lemmas.List.{take_at, drop_at}
 use Rattle.gate_vault.specs.File.{head, payload, frames, IsClosed, StandsFor, AreShort, HeadDiffers, IsNoPayload, IsDamagedAt}
 

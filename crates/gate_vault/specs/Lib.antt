@@ -1,6 +1,5 @@
-pub mod Errors
 pub mod File
-pub mod Frames
 pub mod Put
 pub mod Stops
 pub mod Vault
+pub mod inside

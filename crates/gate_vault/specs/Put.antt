@@ -1,7 +1,6 @@
--- What becomes of a disk's bytes in a write that is made once more where it fails, and in a write with a sync.
-use Rattle.std.specs.Prelude.{◌≡◌, ◌⊎◌, ℕ, ◌+◌, ◌-◌, ◌^◌, ◌≤◌, List, length, Option, Some, Result, Ok, Err}
-use Rattle.spec_base.specs.Crash.{Only}
-use Rattle.spec_base.specs.Disk.{Torn, Written}
+-- How often a call fails whose device calls are made once more where they fail, and what its disk tells then.
+use Rattle.std.specs.Prelude.{◌≡◌, ◌⊎◌, ℕ, ◌+◌, ◌-◌, ◌^◌, ◌≤◌, List, Option, Some, Result, Ok, Err}
+use Rattle.spec_base.specs.Disk.{Torn}
 use Rattle.gate_vault.specs.File.{StandsClosed, IsBeforeOrAfter}
 
 -- so many device calls, each made once more where it fails: at Ok none failed twice, and at an error one did at most
@@ -14,17 +13,6 @@ pub record FailedTwice (faults_old faults_new row_new : ℕ) : Type 0 where
   pub rose : (faults_old + 2 ≤ faults_new) ⊎ (2 ^ 64 - 1 ≤ faults_new)
   pub in_a_row : row_new ≡ 2
 
--- the bytes were written, maybe after a write of them that failed
-abbrev pub WrittenOver : ℕ → List ℕ → List ℕ → List ℕ → Type 0
-WrittenOver at bytes old new = (mid : List ℕ) × Torn at (length bytes) old mid × Written at bytes mid new
-
--- the disk tells a file with the bytes written, and every crash leaves that file
-pub record IsPut (at : ℕ) (bytes old : List ℕ) (seen : Option (List ℕ)) (outcomes : List ℕ → Type 0) : Type 0 where
-  pub file : List ℕ
-  pub told : seen ≡ Some file
-  pub written : WrittenOver at bytes old file
-  pub only : Only file outcomes
-
 -- the disk tells a file in which the bytes may be torn
 abbrev pub IsTornPut : ℕ → ℕ → List ℕ → Option (List ℕ) → Type 0
 IsTornPut at n old seen = (file : List ℕ) × (seen ≡ Some file) × Torn at n old file
@@ -32,13 +20,6 @@ IsTornPut at n old seen = (file : List ℕ) × (seen ≡ Some file) × Torn at n
 -- the disk tells a file that stands for these entries, with 00 at its last gate
 abbrev pub TellsClosed : Option (List ℕ) → List (List ℕ) → Type 0
 TellsClosed seen entries = (file : List ℕ) × (seen ≡ Some file) × StandsClosed file entries
-
--- the disk tells a file that stands for these entries, with 00 at its last gate, and every crash leaves that file
-pub record IsKept (seen : Option (List ℕ)) (outcomes : List ℕ → Type 0) (entries : List (List ℕ)) : Type 0 where
-  pub file : List ℕ
-  pub told : seen ≡ Some file
-  pub stands : StandsClosed file entries
-  pub only : Only file outcomes
 
 -- the disk tells a file that stands for these entries, or for these and one more, with the byte of its last gate
 abbrev pub TellsBeforeOrAfter : Option (List ℕ) → List (List ℕ) → List ℕ → Type 0

@@ -1,6 +1,6 @@
 ghost use Rattle.std.specs.Prelude.{◌≡◌};
 ghost use Rattle.gate_vault.specs.declared.errors.VaultError.TheVariants.{OutOfMemory as NoRoom};
-ghost use Rattle.gate_vault.specs.Errors.{error_of};
+ghost use Rattle.gate_vault.specs.inside.Errors.{error_of};
 
 use quota_table::OutOfMemory as NoMemory;
 use spec_base::Stop;

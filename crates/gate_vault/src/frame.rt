@@ -4,7 +4,8 @@ ghost use Rattle.spec_base.specs.Faults.{StaysSound};
 ghost use Rattle.spec_base.specs.Crash.{Only, LeavesOnly};
 ghost use Rattle.spec_base.specs.declared.stop.Stop.TheVariants.{Failed};
 ghost use Rattle.gate_vault.specs.File.{payload, gate_after, StandsFor, StandsWithGate, IsBeforeOrAfter};
-ghost use Rattle.gate_vault.specs.Put.{FailedTwice, TriesEach, IsKept, TellsBeforeOrAfter};
+ghost use Rattle.gate_vault.specs.Put.{FailedTwice, TriesEach, TellsBeforeOrAfter};
+ghost use Rattle.gate_vault.specs.inside.Writes.{KeepsClosed};
 
 use crate::put::put;
 use quota_table::{Bytes, OutOfMemory};
@@ -37,7 +38,7 @@ pub fn write_frame<D: Disk>(disk: &mut D, gate: u64, bytes: &[u8]) -> Result<(),
     requires { gate < 2 ^ 64 - 1 }
     ensures acknowledged { (entries : List (List ℕ)) (entry file : List ℕ) → gate ≡ gate_after entries → bytes.now ≡ payload entry ++ 0 ∷ []
         → D.seen disk.old ≡ Some file → StandsFor file entries
-        → OnOk result (IsKept (D.seen disk.new) (D.may_leave disk.new) (entries ++ entry ∷ [])) }
+        → OnOk result (KeepsClosed (D.seen disk.new) (D.may_leave disk.new) (entries ++ entry ∷ [])) }
     ensures failed { (entries : List (List ℕ)) (entry file : List ℕ) → gate ≡ gate_after entries → bytes.now ≡ payload entry ++ 0 ∷ []
         → D.seen disk.old ≡ Some file → StandsWithGate file entries
         → OnErr result (TellsBeforeOrAfter (D.seen disk.new) entries entry) }

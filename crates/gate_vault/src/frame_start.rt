@@ -1,5 +1,5 @@
 ghost use Rattle.std.specs.Prelude.{◌≤◌, length};
-ghost use Rattle.gate_vault.specs.Frames.{IsFrameStart};
+ghost use Rattle.gate_vault.specs.inside.Frames.{IsFrameStart};
 
 use crate::start::FrameStart;
 

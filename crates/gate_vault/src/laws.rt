@@ -2,8 +2,7 @@
 ghost use Rattle.std.specs.Prelude.{◌≡◌, List, ℕ};
 ghost use Rattle.gate_vault.specs.declared.errors.VaultError.{VaultError as TheError};
 ghost use Rattle.gate_vault.specs.File.{StandsFor, AreShort};
-ghost use Rattle.gate_vault.specs.Frames.{RefusesFile};
-ghost use Rattle.gate_vault.specs.Stops.{IsStop};
+ghost use Rattle.gate_vault.specs.Stops.{IsStop, RefusesFile};
 
 /// A file stands for at most one list of entries.
 pub fn stands_for_one()

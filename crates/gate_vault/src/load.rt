@@ -4,9 +4,10 @@ ghost use Rattle.spec_base.specs.Crash.{Only, NoneNew, Elapses};
 ghost use Rattle.spec_base.specs.Faults.{StaysSound};
 ghost use Rattle.gate_vault.specs.declared.errors.VaultError.TheVariants.{DiskFault};
 ghost use Rattle.gate_vault.specs.Put.{FailedTwice};
-ghost use Rattle.gate_vault.specs.Stops.{IsStop, IsStopOrDamaged, IsStopOrNoVault, IsLoadError, WhereRead};
+ghost use Rattle.gate_vault.specs.Stops.{IsStop, IsLoadError};
+ghost use Rattle.gate_vault.specs.inside.Stops.{IsStopOr, IsDamage, IsNoVault, WhereRead};
 ghost use Rattle.gate_vault.specs.File.{head};
-ghost use Rattle.gate_vault.specs.Frames.{FrameRead, DiffersFirst, HeadRead, FileRead};
+ghost use Rattle.gate_vault.specs.inside.Frames.{FrameRead, DiffersFirst, HeadRead, FileRead};
 
 use crate::errors::VaultError;
 use crate::frame_start::frame_start;
@@ -70,7 +71,7 @@ pub fn read_frame<D: Disk>(
     ensures sound { StaysSound (D.never_fails disk.old) (D.never_fails disk.new) (D.faults disk.old) (D.faults disk.new) }
     ensures frame { (file : List ℕ) → D.seen disk.old ≡ Some file → FrameRead at file result }
     ensures short { IfOk result (λ frame. IfSome frame (λ entry. length entry ≤ 4096)) }
-    ensures named { IsStopOrDamaged result }
+    ensures named { IsStopOr IsDamage result }
     ensures seen { D.seen disk.new ≡ D.seen disk.old }
     ensures none_new { NoneNew (D.may_leave disk.old) (D.may_leave disk.new) }
     ensures time { Elapses (D.moment disk.old) (D.moment disk.new) (D.left_since disk.old) (D.left_since disk.new) (D.may_leave disk.old) }
@@ -100,7 +101,7 @@ pub fn read_entries<D: Disk>(alloc: Global, disk: &mut D) -> Result<(Entries, u6
     ensures no_fall { D.faults disk.old ≤ D.faults disk.new }
     ensures sound { StaysSound (D.never_fails disk.old) (D.never_fails disk.new) (D.faults disk.old) (D.faults disk.new) }
     ensures entries { (file : List ℕ) → D.seen disk.old ≡ Some file → take 8 file ≡ head → FileRead file result }
-    ensures named { IsStopOrDamaged result }
+    ensures named { IsStopOr IsDamage result }
     ensures seen { D.seen disk.new ≡ D.seen disk.old }
     ensures none_new { NoneNew (D.may_leave disk.old) (D.may_leave disk.new) }
     ensures time { Elapses (D.moment disk.old) (D.moment disk.new) (D.left_since disk.old) (D.left_since disk.new) (D.may_leave disk.old) }
@@ -138,7 +139,7 @@ fn check_head<D: Disk>(alloc: Global, disk: &mut D) -> Result<(), VaultError>
     ensures no_fall { D.faults disk.old ≤ D.faults disk.new }
     ensures sound { StaysSound (D.never_fails disk.old) (D.never_fails disk.new) (D.faults disk.old) (D.faults disk.new) }
     ensures head { (file : List ℕ) → D.seen disk.old ≡ Some file → HeadRead file result }
-    ensures named { IsStopOrNoVault result }
+    ensures named { IsStopOr IsNoVault result }
     ensures seen { D.seen disk.new ≡ D.seen disk.old }
     ensures none_new { NoneNew (D.may_leave disk.old) (D.may_leave disk.new) }
     ensures time { Elapses (D.moment disk.old) (D.moment disk.new) (D.left_since disk.old) (D.left_since disk.new) (D.may_leave disk.old) }

@@ -3,7 +3,8 @@ ghost use Rattle.spec_base.specs.Faults.{StaysSound};
 ghost use Rattle.spec_base.specs.Disk.{Torn};
 ghost use Rattle.spec_base.specs.Crash.{Only, LeavesOnly};
 ghost use Rattle.spec_base.specs.declared.stop.Stop.TheVariants.{Failed};
-ghost use Rattle.gate_vault.specs.Put.{FailedTwice, TriesEach, IsPut, IsTornPut};
+ghost use Rattle.gate_vault.specs.Put.{FailedTwice, TriesEach, IsTornPut};
+ghost use Rattle.gate_vault.specs.inside.Writes.{IsPut};
 
 use crate::twice::{sync_twice, write_twice};
 use spec_base::{Disk, Stop};

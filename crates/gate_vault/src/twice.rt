@@ -4,7 +4,8 @@ ghost use Rattle.spec_base.specs.Faults.{StaysSound};
 ghost use Rattle.spec_base.specs.Disk.{Told, GivesPart, Torn};
 ghost use Rattle.spec_base.specs.Crash.{Only, NoneNew, Follows, Elapses};
 ghost use Rattle.spec_base.specs.declared.stop.Stop.TheVariants.{Failed};
-ghost use Rattle.gate_vault.specs.Put.{FailedTwice, TriesEach, WrittenOver};
+ghost use Rattle.gate_vault.specs.Put.{FailedTwice, TriesEach};
+ghost use Rattle.gate_vault.specs.inside.Writes.{WrittenOver};
 
 use spec_base::{Disk, Stop};
 

@@ -4,8 +4,7 @@ ghost use Rattle.spec_base.specs.Crash.{Only, NoneNew, Elapses, LeavesOnly};
 ghost use Rattle.spec_base.specs.Disk.{Torn};
 ghost use Rattle.gate_vault.specs.declared.errors.VaultError.TheVariants.{DiskFault};
 ghost use Rattle.gate_vault.specs.File.{IsBeforeOrAfter, StandsFor, StandsWithGate};
-ghost use Rattle.gate_vault.specs.Frames.{RefusesFile};
-ghost use Rattle.gate_vault.specs.Stops.{IsStop, IsLoadError, IsOfFile};
+ghost use Rattle.gate_vault.specs.Stops.{IsStop, IsLoadError, IsOfFile, RefusesFile};
 ghost use Rattle.gate_vault.specs.Put.{FailedTwice, TriesEach, IsTornPut, TellsBeforeOrAfter, TellsClosed};
 
 use crate::errors::VaultError;

@@ -1,6 +1,7 @@
 use Rattle.std.proofs.Common.{◌≡◌, ◌+◌, ◌++◌, ◌∷◌, [], ℕ, List, Option, length, inl, subst}
 use Rattle.gate_vault.specs.File.{payload, gate_after, StandsFor}
-use Rattle.gate_vault.specs.Put.{WrittenOver, IsPut, IsTornPut, IsKept, TellsBeforeOrAfter}
+use Rattle.gate_vault.specs.inside.Writes.{WrittenOver, IsPut, KeepsClosed}
+use Rattle.gate_vault.specs.Put.{IsTornPut, TellsBeforeOrAfter}
 use Rattle.gate_vault.proofs.Again.{on_ok_then, on_err_then, on_err_always}
 use Rattle.gate_vault.proofs.FrameBytes.{IsStaged, stands_with, torn_behind, written_behind, torn_gate, written_gate, staged_stands}
 use Rattle.gate_vault.proofs.Moments.{leaves_then, leaves_widened}
@@ -15,7 +16,7 @@ staged entries entry gate place bytes file after are stands written =
 -- the second put, whole
 opened : (entries : List (List ℕ)) (entry : List ℕ) (gate : ℕ) → gate ≡ gate_after entries
     → (first : List ℕ) (seen : Option (List ℕ)) (outcomes : List ℕ → Type 0) → IsStaged entries entry first
-    → IsPut gate (1 ∷ []) first seen outcomes → IsKept seen outcomes (entries ++ entry ∷ [])
+    → IsPut gate (1 ∷ []) first seen outcomes → KeepsClosed seen outcomes (entries ++ entry ∷ [])
 opened entries entry gate place first seen outcomes after put = record {
   file = put.file;
   told = put.told;

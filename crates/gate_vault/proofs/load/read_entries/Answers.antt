@@ -1,6 +1,6 @@
 use Rattle.std.proofs.Common.{◌≡◌, ◌≤◌, ◌+◌, ◌++◌, ◌∷◌, [], ◌∙◌, List, ℕ, Option, Ok, length, sym, ap, subst, arith, rules}
 use Rattle.gate_vault.specs.File.{gate_after, AreShort}
-use Rattle.gate_vault.specs.Frames.{FrameRead}
+use Rattle.gate_vault.specs.inside.Frames.{FrameRead}
 use Rattle.gate_vault.proofs.Again.{quiet_then}
 use Rattle.gate_vault.proofs.FrameBytes.{areshort-append, gate_after-append}
 use Rattle.gate_vault.proofs.FrameReads.{next_read}

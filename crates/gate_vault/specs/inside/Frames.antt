@@ -4,7 +4,8 @@ use Rattle.gate_vault.specs.declared.errors.VaultError.{VaultError}
 use Rattle.gate_vault.specs.declared.errors.VaultError.TheVariants.{DiskFault, NotAVault, Damaged, OutOfMemory}
 use Rattle.gate_vault.specs.declared.start.FrameStart.{FrameStart}
 use Rattle.gate_vault.specs.declared.start.FrameStart.TheVariants.{Closed, Cut, Payload}
-use Rattle.gate_vault.specs.File.{head, payload, gate_after, IsClosed, IsNoPayload, StandsFor, AreShort, HeadDiffers, IsDamagedAt}
+use Rattle.gate_vault.specs.File.{head, payload, gate_after, IsClosed, IsNoPayload, StandsFor, AreShort, HeadDiffers}
+use Rattle.gate_vault.specs.Stops.{RefusesFile}
 
 -- an open gate with no frame behind it
 abbrev pub IsBadFrame : List ℕ → Type 0
@@ -47,14 +48,6 @@ HeadRead file (Err (NotAVault at byte)) = HeadDiffers file at byte
 HeadRead file (Err DiskFault) = ⊤
 HeadRead file (Err OutOfMemory) = ⊤
 HeadRead file (Err _) = ⊥
-
--- why a file is refused: its head differs, or it is damaged; and a disk fault or want of memory say nothing of it
-abbrev pub RefusesFile : List ℕ → VaultError → Type 0
-RefusesFile file (NotAVault at byte) = HeadDiffers file at byte
-RefusesFile file (Damaged at) = IsDamagedAt file at
-RefusesFile file DiskFault = ⊤
-RefusesFile file OutOfMemory = ⊤
-RefusesFile file _ = ⊥
 
 -- the file stands for the entries, within the limit, or is refused
 abbrev pub FileRead : List ℕ → Result (List (List ℕ) × ℕ) VaultError → Type 0

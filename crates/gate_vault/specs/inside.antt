@@ -1,0 +1,5 @@
+-- What only the contracts of this crate's private functions, its invariants and its proofs cite.
+pub mod Errors
+pub mod Writes
+pub mod Stops
+pub mod Frames
