@@ -13,7 +13,7 @@ use Rattle.net_model.specs.declared.steps.Taken.TheVariants as kept
 use Rattle.net_model.specs.Names.{NodeId, Message, Mark, Event, HistoryEntry}
 use Rattle.net_model.specs.Names.events
 use Rattle.net_model.specs.Pasts.{Past, past_of, sent, shown}
-use Rattle.net_model.specs.Kept.{event_in, entry_in, entries_in, entries_of, IsTakenIn, IsStepIn, AreStepsIn, IsWhole, taken_as, with_whole, with_event, with_step}
+use Rattle.net_model.specs.inside.Kept.{event_in, entry_in, entries_in, entries_of, IsTakenIn, IsStepIn, AreStepsIn, IsWhole, taken_as, with_whole, with_event, with_step}
 
 -- ---- lists
 
@@ -165,13 +165,13 @@ steps-whole c event from at [] h = h
 steps-whole c event from at (s ∷ ss) h = (step-kept c (with_whole c event) from at s (grew-whole c event) h.0, steps-whole c event s.sends_end s.marks_end ss h.1)
 
 -- an event, kept for the next step
-pub record IsKept (c d : Columns) (event : Event) (taken : Taken) : Type 0 where
+pub record KeepsEvent (c d : Columns) (event : Event) (taken : Taken) : Type 0 where
   pub whole : IsWhole d
   pub entries : entries_of d ≡ entries_of c
   pub taken_in : IsTakenIn d taken
   pub event_is : event_in d taken ≡ event
 
-kept-whole : (c : Columns) (event : Event) → IsWhole c → IsKept c (with_whole c event) event (kept.Whole (length c.events))
+kept-whole : (c : Columns) (event : Event) → IsWhole c → KeepsEvent c (with_whole c event) event (kept.Whole (length c.events))
 kept-whole c event w = record {
   whole = steps-whole c event 0 0 c.steps w;
   entries = entries-kept c (with_whole c event) 0 0 c.steps (grew-whole c event) w;
@@ -179,13 +179,13 @@ kept-whole c event w = record {
   event_is = ap (λ e. unwrap_or e events.Tick) (slice_get-last c.events event);
 }
 
-kept-event : (c : Columns) (event : Event) → IsWhole c → IsKept c (with_event c event) event (taken_as c event)
+kept-event : (c : Columns) (event : Event) → IsWhole c → KeepsEvent c (with_event c event) event (taken_as c event)
 kept-event c events.Tick w = record { whole = w; entries = refl; taken_in = tt; event_is = refl }
 kept-event c events.Restart w = record { whole = w; entries = refl; taken_in = tt; event_is = refl }
 kept-event c (events.Submit by body) w = kept-whole c (events.Submit by body) w
 kept-event c (events.Deliver message) w = kept-whole c (events.Deliver message) w
 kept-event c (events.Command command) w = kept-whole c (events.Command command) w
 
-pub event_kept : (c d : Columns) (event : Event) (taken : Taken) → IsWhole c → d ≡ with_event c event → taken ≡ taken_as c event → IsKept c d event taken
+pub event_kept : (c d : Columns) (event : Event) (taken : Taken) → IsWhole c → d ≡ with_event c event → taken ≡ taken_as c event → KeepsEvent c d event taken
 event_kept c d event taken w e t =
-    subst (λ (k : Taken). IsKept c d event k) (sym t) (subst (λ (x : Columns). IsKept c x event (taken_as c event)) (sym e) (kept-event c event w))
+    subst (λ (k : Taken). KeepsEvent c d event k) (sym t) (subst (λ (x : Columns). KeepsEvent c x event (taken_as c event)) (sym e) (kept-event c event w))

@@ -8,7 +8,7 @@ use Rattle.net_model.specs.declared.columns.Columns.{Columns}
 use Rattle.net_model.specs.declared.steps.KeptStep.{KeptStep}
 use Rattle.net_model.specs.Names.{Message, Mark, HistoryEntry}
 use Rattle.net_model.specs.Pasts.{Past, past_of, sent, shown}
-use Rattle.net_model.specs.Kept.{entry_in, entries_in, entries_of, sends_before, marks_before, IsStepIn, AreStepsIn, IsWhole}
+use Rattle.net_model.specs.inside.Kept.{entry_in, entries_in, entries_of, sends_before, marks_before, IsStepIn, AreStepsIn, IsWhole}
 
 -- ---- the entry at an index
 

@@ -1,4 +1,3 @@
-pub mod Kept
 pub mod Journals
 pub mod Merges
 pub mod Sources
@@ -6,4 +5,4 @@ pub mod Entries
 pub mod Names
 pub mod Pasts
 pub mod Tables
-pub mod Steps
+pub mod inside

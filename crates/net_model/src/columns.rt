@@ -1,7 +1,7 @@
 //! The columns that a history is kept in.
 
 ghost use Rattle.std.specs.Prelude.{◌≡◌, ◌<◌, ◌≤◌, ◌++◌, [], length, slice_get, slice_range, IfOk, OnOk, OnErr};
-ghost use Rattle.net_model.specs.Kept.{no_columns, sends_before, marks_before, entries_of, IsWhole, taken_as, with_event, with_step};
+ghost use Rattle.net_model.specs.inside.Kept.{no_columns, sends_before, marks_before, entries_of, IsWhole, taken_as, with_event, with_step};
 
 use crate::entry_ref::EntryRef;
 use crate::steps::{KeptStep, Steps, Taken};

@@ -28,7 +28,7 @@ impl<'a> Model for EntryRef<'a> {
 
     ghost Value = { HistoryEntry };
 
-    ghost use Rattle.net_model.specs.Kept.{event_in, IsTakenIn};
+    ghost use Rattle.net_model.specs.inside.Kept.{event_in, IsTakenIn};
 
     ghost view = { λ e. record { node = e.node; event = event_in e.columns.now e.taken; sends = e.sends.now; marks = e.marks.now } };
 

@@ -40,7 +40,7 @@ impl Model for History {
 
     ghost Value = { List HistoryEntry };
 
-    ghost use Rattle.net_model.specs.Kept.{entries_of, IsWhole};
+    ghost use Rattle.net_model.specs.inside.Kept.{entries_of, IsWhole};
 
     ghost view = { λ h. entries_of h.columns };
 

@@ -1,7 +1,7 @@
 //! The steps of a history, as small as their numbers allow.
 
 ghost use Rattle.std.specs.Prelude.{◌≡◌, ◌++◌, ◌∷◌, [], length, slice_get, IfSome, OnOk, OnErr};
-ghost use Rattle.net_model.specs.Steps.{wide_taken, wide_step};
+ghost use Rattle.net_model.specs.inside.Steps.{wide_taken, wide_step};
 
 use quota_table::OutOfMemory;
 use spec_base::NodeId;
@@ -65,7 +65,7 @@ impl Model for Steps {
 
     ghost Value = { List KeptStep };
 
-    ghost use Rattle.net_model.specs.Steps.{wide_step};
+    ghost use Rattle.net_model.specs.inside.Steps.{wide_step};
 
     ghost view = { λ s. map wide_step s.small.items ++ s.wide.items };
 }

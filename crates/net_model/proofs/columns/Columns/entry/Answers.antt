@@ -3,7 +3,7 @@ use Rattle.std.specs.List.{slice_get, slice_range}
 use Rattle.net_model.specs.declared.columns.Columns.{Columns}
 use Rattle.net_model.specs.declared.steps.KeptStep.{KeptStep}
 use Rattle.net_model.specs.Names.{Message, Mark, HistoryEntry}
-use Rattle.net_model.specs.Kept.{event_in, entry_in, entries_of, sends_before, marks_before, IsStepIn, IsWhole}
+use Rattle.net_model.specs.inside.Kept.{event_in, entry_in, entries_of, sends_before, marks_before, IsStepIn, IsWhole}
 use Rattle.net_model.proofs.Reading.{entry_of_step, no_entry_of_step, step_within}
 use Rattle.net_model.proofs.columns.Columns.entry.Goals as goal
 

@@ -1,6 +1,6 @@
 use Rattle.std.proofs.Common.{◌≡◌, ℕ, suc, ◌-◌, Some, sym, ap, ◌∙◌, arith}
 use Rattle.std.specs.List.{slice_get}
-use Rattle.net_model.specs.Kept.{sends_before, marks_before}
+use Rattle.net_model.specs.inside.Kept.{sends_before, marks_before}
 use Rattle.net_model.proofs.Reading.{sends_follow, marks_follow}
 use Rattle.net_model.proofs.columns.Columns.starts.Goals as goal
 

@@ -4,7 +4,7 @@ use Rattle.std.specs.Option.{option_map_or}
 use Rattle.net_model.specs.declared.steps.Taken.TheVariants as kept
 use Rattle.net_model.specs.Names.{Event, HistoryEntry}
 use Rattle.net_model.specs.Names.events
-use Rattle.net_model.specs.Kept.{entries_of, event_in}
+use Rattle.net_model.specs.inside.Kept.{entries_of, event_in}
 use Rattle.net_model.proofs.Growing.{whole_put, entries_put}
 use Rattle.net_model.proofs.Reading.{sent_all}
 use Rattle.net_model.proofs.history.History.push_delivery.Goals as goal

@@ -1,8 +1,8 @@
 use Rattle.std.proofs.Common.{◌≡◌, List, ◌∷◌, [], ◌++◌, sym, ap, subst, ◌∙◌}
 use Rattle.std.proofs.Common.{Result, Ok, Err, OnErr}
-use Rattle.net_model.specs.Kept.{IsWhole, entries_of, event_in}
+use Rattle.net_model.specs.inside.Kept.{IsWhole, entries_of, event_in}
 use Rattle.net_model.specs.Names.{Event, HistoryEntry}
-use Rattle.net_model.proofs.Growing.{IsKept, event_kept, whole_put, entries_put}
+use Rattle.net_model.proofs.Growing.{KeepsEvent, event_kept, whole_put, entries_put}
 use Rattle.net_model.proofs.history.History.put.Goals as goal
 
 on_err : {T E P : Type 0} (r : Result T E) → P → OnErr r P
