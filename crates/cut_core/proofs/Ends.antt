@@ -18,7 +18,7 @@ use Rattle.cut_core.specs.Agreements.{Agreement, Gone, count_of}
 use Rattle.cut_core.specs.Fold.{with_round}
 use Rattle.cut_core.specs.Map.{end_among}
 use Rattle.cut_core.specs.Soundness.{IsSound, HasFinalEnds}
-use Rattle.cut_core.specs.Insides.{local_end}
+use Rattle.cut_core.specs.inside.Kept.{local_end}
 use Rattle.cut_core.proofs.Counts.{quota_of-absent}
 use Rattle.cut_core.proofs.Kept.{gone-row, count_of-round, starts-round}
 

@@ -16,7 +16,7 @@ use Rattle.cut_core.specs.declared.agreed.Agreed.TheInside.{Inside}
 use Rattle.cut_core.specs.Agreements.{Agreement, Gone, count_of, is_last_round}
 use Rattle.cut_core.specs.Fold.{with_round, dropped_rows, opened, after_remove}
 use Rattle.cut_core.specs.Soundness.{MayBeGrant, IsGrant, IsSound, HasFinalEnds}
-use Rattle.cut_core.specs.Insides.{agreement_of, IsAgreed, followed, local_end}
+use Rattle.cut_core.specs.inside.Kept.{agreement_of, IsAgreed, followed, local_end}
 use Rattle.cut_core.proofs.Kept.{IsSound-opened, IsSound-remove}
 use Rattle.cut_core.proofs.Ends.{ends-table, row-within, ends-round, local_end-round, local_end-sound, final-rows, HasFinalEnds-removed}
 use Rattle.cut_core.proofs.Follows.{followed-opened, followed-removed}

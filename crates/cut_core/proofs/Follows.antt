@@ -20,7 +20,7 @@ use Rattle.cut_core.specs.declared.agreed.Agreed.TheInside.{Inside}
 use Rattle.cut_core.specs.Agreements.{Agreement, Gone, agreement_from, count_of, is_gone}
 use Rattle.cut_core.specs.Fold.{with_round, dropped_rows, opened, after_table, after_remove}
 use Rattle.cut_core.specs.Soundness.{IsFirst, IsSound, HasFinalEnds}
-use Rattle.cut_core.specs.Insides.{owners_in, numbers_in, IsOver, AreOver, agreement_of, IsAgreed, followed}
+use Rattle.cut_core.specs.inside.Kept.{owners_in, numbers_in, IsOver, AreOver, agreement_of, IsAgreed, followed}
 use Rattle.cut_core.proofs.Kept.{IsSound-round, IsSound-table}
 use Rattle.cut_core.proofs.Ends.{HasFinalEnds-round, IsDistinct-nil}
 

@@ -8,7 +8,7 @@ use Rattle.quota_table.specs.declared.rows.Row.{Row}
 use Rattle.quota_table.specs.Rows.{IsTable, has_shard}
 use Rattle.quota_table.proofs.TableLemmas.{quotas_of-table}
 use Rattle.fix_ante.specs.declared.spots.Spot.{Spot}
-use Rattle.fix_ante.specs.Windows.{Window, IsWindow, rows_of, has_row, width_of, end_of, spots_from, start_after, first_of, spots_without}
+use Rattle.fix_ante.specs.Windows.{Window, IsWindow, rows_of, has_row, width_of, end_of, window_after, spots_from, start_after, first_of, spots_without}
 use Rattle.fix_ante.specs.Layout.{round_of}
 use Rattle.fix_ante.specs.Locals.{locals_of, quota_of}
 use Rattle.fix_ante.proofs.WindowLemmas.{rows_of-spots_from, IsWindow-first_of}
@@ -163,27 +163,33 @@ IsSound-opened a w is grant last = record {
 
 -- ---- a window is granted
 
+-- where the granted window and the count of entries alone are others
+IsSound-granted : (a : Agreement) (slots : ℕ) (granted : Option Window) → IsSound a → a.slots ≤ slots
+    → MayBeGrant (record a { slots = slots; granted = granted }) granted → IsSound (record a { slots = slots; granted = granted })
+IsSound-granted a slots granted is le grant = record {
+  window = is.window;
+  short = is.short;
+  covered = is.covered;
+  starts = is.starts;
+  dense = is.dense;
+  rows = is.rows;
+  grant = grant;
+  reach = omega (arith, is.reach, le);
+}
+
 pub IsSound-table : (a : Agreement) (rounds : ℕ) (rows : List Row) → IsSound a → a.slots < 1000000 → 1 ≤ rounds → rounds ≤ 1024 → IsTable rows
     → ((shard : ℕ) → has_shard shard rows ≡ true → is_gone a shard ≡ false) → IsSound (record (after_table a rounds rows) { slots = a.slots + 1 })
 IsSound-table a rounds rows is below some most table stays =
     let start = start_after a.current.spots a.current.rounds in
     let spots = spots_from start rows in
     let has : (shard : ℕ) → has_row shard spots ≡ true → has_shard shard rows ≡ true = λ shard row. sym (ap (has_shard shard) (rows_of-spots_from start rows)) ∙ (sym (has_row-rows_of shard spots) ∙ row) in
-    record {
-      window = is.window;
-      short = is.short;
-      covered = is.covered;
-      starts = is.starts;
-      dense = is.dense;
-      rows = is.rows;
-      grant = record {
-        window = IsWindow-next_of a.current (a.slots + 1) rounds rows is.window (omega (arith, is.reach, end_of-window a.current is.window)) some most table;
-        base = refl;
-        starts = λ shard row. start_after-spots_from start rows 0 shard (has shard row) ∙ omega arith;
-        stays = λ shard row. stays shard (has shard row);
-      };
-      reach = omega (arith, is.reach);
-    }
+    IsSound-granted a (a.slots + 1) (Some (window_after a.current (a.slots + 1) rounds rows)) is (omega arith)
+    (record {
+      window = IsWindow-next_of a.current (a.slots + 1) rounds rows is.window (omega (arith, is.reach, end_of-window a.current is.window)) some most table;
+      base = refl;
+      starts = λ shard row. start_after-spots_from start rows 0 shard (has shard row) ∙ omega arith;
+      stays = λ shard row. stays shard (has shard row);
+    })
 
 -- ---- a shard is removed
 
@@ -226,13 +232,5 @@ IsSound-remove a shard is below row another =
 
 -- nothing but the count changes
 pub IsSound-passed : (a : Agreement) → IsSound a → IsSound (record a { slots = a.slots + 1 })
-IsSound-passed a is = record {
-  window = is.window;
-  short = is.short;
-  covered = is.covered;
-  starts = is.starts;
-  dense = is.dense;
-  rows = is.rows;
-  grant = grant_stays a (record a { slots = a.slots + 1 }) a.granted refl refl is.grant;
-  reach = omega (arith, is.reach);
-}
+IsSound-passed a is =
+    IsSound-granted a (a.slots + 1) a.granted is (omega arith) (grant_stays a (record a { slots = a.slots + 1 }) a.granted refl refl is.grant)

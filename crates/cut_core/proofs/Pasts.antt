@@ -12,7 +12,7 @@ use Rattle.fix_ante.specs.declared.spots.Owner.{Owner}
 use Rattle.fix_ante.specs.Windows.{width_of}
 use Rattle.fix_ante.proofs.LayoutLemmas.{length-rounds_from}
 use Rattle.cut_core.specs.declared.past.Past.{Past}
-use Rattle.cut_core.specs.Insides.{owners_in, numbers_in}
+use Rattle.cut_core.specs.inside.Kept.{owners_in, numbers_in}
 
 -- the covered owners of the first windows that are over
 abbrev pub covered_by : ℕ → List Past → List Owner

@@ -9,7 +9,7 @@ use Rattle.cut_core.specs.declared.agreed.Agreed.TheInside.{Inside}
 use Rattle.cut_core.specs.Agreements.{Agreement, Gone}
 use Rattle.cut_core.specs.Map.{end_among}
 use Rattle.cut_core.specs.Soundness.{MayBeGrant, IsSound, HasFinalEnds}
-use Rattle.cut_core.specs.Insides.{agreement_of, IsAgreed}
+use Rattle.cut_core.specs.inside.Kept.{agreement_of, IsAgreed}
 use Rattle.cut_core.proofs.Kept.{end_of-window}
 use Rattle.cut_core.proofs.Ends.{AreCounts, end_among-counted}
 

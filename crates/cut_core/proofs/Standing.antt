@@ -17,7 +17,7 @@ use Rattle.cut_core.specs.declared.agreed.Agreed.TheInside.{Inside}
 use Rattle.cut_core.specs.Agreements.{Agreement, count_of, is_gone}
 use Rattle.cut_core.specs.Map.{located, placed, covered_locals}
 use Rattle.cut_core.specs.Soundness.{IsSound, HasFinalEnds}
-use Rattle.cut_core.specs.Insides.{owners_in, numbers_in, AreOver, agreement_of, IsAgreed, window_from, IsPast, StandsIn, IsPastLocal, HasLocal}
+use Rattle.cut_core.specs.inside.Kept.{owners_in, numbers_in, AreOver, agreement_of, IsAgreed, window_from, IsPast, StandsIn, IsPastLocal, HasLocal}
 use Rattle.cut_core.proofs.Dense.{IsDense, placed-located, slice_get-index_of, index_of-dense}
 use Rattle.cut_core.proofs.Finding.{slice_get-window, index_of-window, count_of-front, dense-found, index_of-dense_past}
 use Rattle.cut_core.proofs.Pasts.{covered_by, covered_by-split, numbers_by-split, length-numbers_in, Grows, IsKeyOf, IsFoundAt, rising, found_at}

@@ -5,5 +5,5 @@ pub mod Effects
 pub mod Map
 pub mod MapsAgree
 pub mod Soundness
-pub mod Insides
 pub mod Consistency
+pub mod inside

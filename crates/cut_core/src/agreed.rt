@@ -7,7 +7,7 @@ ghost use Rattle.cut_core.specs.Map.{located, placed, covered_locals, gone_end};
 ghost use Rattle.cut_core.specs.Effects.{effect_of, ends_window};
 ghost use Rattle.cut_core.specs.Fold.{applied, HasValidTable};
 ghost use Rattle.cut_core.specs.Soundness.{IsFirst, IsSound};
-ghost use Rattle.cut_core.specs.Insides.{IsPast, StandsIn, IsPastLocal, HasLocal};
+ghost use Rattle.cut_core.specs.inside.Kept.{IsPast, StandsIn, IsPastLocal, HasLocal};
 
 mod faults;
 mod steps;
@@ -46,7 +46,7 @@ impl Model for Agreed {
 
     ghost Value = { Agreement };
 
-    ghost use Rattle.cut_core.specs.Insides.{agreement_of, IsAgreed};
+    ghost use Rattle.cut_core.specs.inside.Kept.{agreement_of, IsAgreed};
 
     ghost view = { agreement_of };
 

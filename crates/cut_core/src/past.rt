@@ -1,7 +1,7 @@
 ghost use Rattle.std.specs.Prelude.{◌≡◌, ℕ, ◌<◌, ◌≤◌, nat_le, true, false, length, slice_index};
 ghost use Rattle.std.specs.List.Sorted.{IsNonDecreasingBy, IsPartitionPoint};
 ghost use Rattle.cut_core.specs.declared.past.Past.{Past as PastOf};
-ghost use Rattle.cut_core.specs.Insides.{local_end, window_from};
+ghost use Rattle.cut_core.specs.inside.Kept.{local_end, window_from};
 
 use crate::gone::{Gone, end_among};
 use fix_ante::Window;

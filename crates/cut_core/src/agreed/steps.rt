@@ -8,7 +8,7 @@ ghost use Rattle.cut_core.specs.Reasons.{fault_of, grant_fault, granted_fault, g
 ghost use Rattle.cut_core.specs.Effects.{effect_where_fit, cut_effect, ends_window};
 ghost use Rattle.cut_core.specs.Fold.{HasValidTable, with_round, after_entry, after_cut, after_table, after_remove, open_granted};
 ghost use Rattle.cut_core.specs.Soundness.{IsSound, HasFinalEnds};
-ghost use Rattle.cut_core.specs.Insides.{followed};
+ghost use Rattle.cut_core.specs.inside.Kept.{followed};
 
 use crate::agreed::Agreed;
 use crate::effects::Effect;

@@ -1,5 +1,5 @@
 use Rattle.std.proofs.Common.{◌≡◌, ℕ, ◌<◌, length, get_or}
-use Rattle.cut_core.specs.Insides.{local_end}
+use Rattle.cut_core.specs.inside.Kept.{local_end}
 use Rattle.cut_core.proofs.past.ends_after.Given as goal
 
 abbrev pub invariant-loop-shard : goal.invariant-loop-shard

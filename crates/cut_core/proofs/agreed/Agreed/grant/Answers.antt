@@ -1,7 +1,7 @@
 use Rattle.std.proofs.Common.{◌≡◌, None, refl, ap, subst, sym, arith}
 use Rattle.cut_core.specs.Agreements.{Agreement, gone_row}
 use Rattle.cut_core.specs.Reasons.{granted_fault, gone_fault}
-use Rattle.cut_core.specs.Insides.{agreement_of}
+use Rattle.cut_core.specs.inside.Kept.{agreement_of}
 use Rattle.cut_core.proofs.Sound.{no_granted, no_gone, gone_row-none}
 use Rattle.cut_core.proofs.Reach.{end-reach}
 use Rattle.cut_core.proofs.Follows.{IsAgreed-grant}

@@ -1,6 +1,6 @@
 use Rattle.std.proofs.Common.{◌≡◌, ap, ◌∙◌, arith}
 use Rattle.cut_core.specs.Agreements.{Agreement, count_of}
-use Rattle.cut_core.specs.Insides.{agreement_of, local_end}
+use Rattle.cut_core.specs.inside.Kept.{agreement_of, local_end}
 use Rattle.cut_core.proofs.Finding.{count_of-le}
 use Rattle.cut_core.proofs.Ends.{local_end-sound}
 use Rattle.cut_core.proofs.Reach.{IsKept-view, covered-reach}

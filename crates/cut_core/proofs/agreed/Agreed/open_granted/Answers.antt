@@ -2,7 +2,7 @@ use Rattle.std.proofs.Common.{◌+◌, Some, ap, ◌∙◌, sym, arith}
 use Rattle.fix_ante.specs.Windows.{Window}
 use Rattle.cut_core.specs.Agreements.{Agreement}
 use Rattle.cut_core.specs.Fold.{with_round, open_granted}
-use Rattle.cut_core.specs.Insides.{agreement_of}
+use Rattle.cut_core.specs.inside.Kept.{agreement_of}
 use Rattle.cut_core.proofs.Ends.{room}
 use Rattle.cut_core.proofs.Entries.{opens_from}
 use Rattle.cut_core.proofs.agreed.Agreed.open_granted.Goals as goal

@@ -4,7 +4,7 @@ use Rattle.fix_ante.specs.Windows.{has_row}
 use Rattle.fix_ante.specs.Moves.{first_failed_of}
 use Rattle.cut_core.specs.Agreements.{Agreement, count_of}
 use Rattle.cut_core.specs.Soundness.{IsSound, HasFinalEnds}
-use Rattle.cut_core.specs.Insides.{agreement_of, followed}
+use Rattle.cut_core.specs.inside.Kept.{agreement_of, followed}
 use Rattle.cut_core.proofs.Reach.{end-reach}
 use Rattle.cut_core.proofs.Ends.{room, row-within}
 use Rattle.cut_core.proofs.Entries.{removes_from, place_of-end}
