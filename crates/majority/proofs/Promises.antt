@@ -130,6 +130,38 @@ module _ {V : Type 0} where
         | inr other ↦ rw other.0 sound
       ]
 
+  -- an attempt stands with another report, value and acceptances where what these say stands
+  pub IsAttempt-stands : (n i : ℕ) (votes : List (Vote V)) (bar : Option ℕ) (sent : List (Message V)) (a : Attempt V) (reported : Option (ℕ × V)) (sending : Option V)
+      (acceptances : List ℕ) → IsAttempt n votes bar sent i a
+      → AttemptStands votes sent n (record a { reported = reported; sending = sending; acceptances = acceptances }) sending
+      → IsAttempt n votes bar sent i (record a { reported = reported; sending = sending; acceptances = acceptances })
+  IsAttempt-stands n i votes bar sent a reported sending acceptances attempt stands = record {
+    here = attempt.here;
+    count = attempt.count;
+    owned = attempt.owned;
+    barred = attempt.barred;
+    within = attempt.within;
+    distinct = attempt.distinct;
+    stands = stands;
+  }
+
+  -- the acceptance of a replica that voted for the value is counted
+  pub IsAttempt-counted : (n i from : ℕ) (a : Attempt V) (value : V) (votes : List (Vote V)) (bar : Option ℕ) (sent : List (Message V)) → from < n
+      → HasVote votes from a.ballot value → IsAttempt n votes bar sent i a → a.sending ≡ Some value → IsAttempt n votes bar sent i (with_acceptance from a)
+  IsAttempt-counted n i from a value votes bar sent below vote attempt e =
+      let before : AttemptsAreVoted votes n a value = subst (λ s. AttemptStands votes sent n a s) e attempt.stands in
+      let after : AttemptsAreVoted votes n (with_acceptance from a) value = record {
+        own = before.own;
+        within = All-with_replica (λ k. k < n) from a.acceptances before.within below;
+        distinct = IsDistinct-with_replica from a.acceptances before.distinct;
+        voted = λ j among. elim (Contains-with_replica from j a.acceptances among) [
+          | inl old ↦ before.voted j old
+          | inr new ↦ subst (λ k. HasVote votes k a.ballot value) new vote
+        ];
+      } in
+      IsAttempt-stands n i votes bar sent a a.reported a.sending (with_replica from a.acceptances) attempt
+      (subst (λ s. AttemptStands votes sent n (with_acceptance from a) s) (sym e) after)
+
   -- an acceptance is counted
   IsAttempt-acceptance : (n i from : ℕ) (a : Attempt V) (value : V) (slot : SlotState V) → IsSound n slot → Contains slot.sent (Accepted from a.ballot) →
       IsAttempt n slot.votes (bars_of slot.acceptors i) slot.sent i a → a.sending ≡ Some value → IsAttempt n slot.votes (bars_of slot.acceptors i) slot.sent i (with_acceptance from a)
@@ -138,24 +170,7 @@ module _ {V : Type 0} where
       let accepted = sound.agreed.messages (Accepted from a.ballot) member in
       let same : accepted.0 ≡ value = OneValuePerBallot n slot.votes sound.agreed.one_vote sound.agreed.owners from a.replica a.ballot accepted.0 value accepted.1 before.own in
       let vote : HasVote slot.votes from a.ballot value = subst (λ v. HasVote slot.votes from a.ballot v) same accepted.1 in
-      let after : AttemptsAreVoted slot.votes n (with_acceptance from a) value = record {
-        own = before.own;
-        within = All-with_replica (λ k. k < n) from a.acceptances before.within ((sound.agreed.acceptors from).within a.ballot value vote);
-        distinct = IsDistinct-with_replica from a.acceptances before.distinct;
-        voted = λ j among. elim (Contains-with_replica from j a.acceptances among) [
-          | inl old ↦ before.voted j old
-          | inr new ↦ subst (λ k. HasVote slot.votes k a.ballot value) new vote
-        ];
-      } in
-      record {
-        here = attempt.here;
-        count = attempt.count;
-        owned = attempt.owned;
-        barred = attempt.barred;
-        within = attempt.within;
-        distinct = attempt.distinct;
-        stands = subst (λ s. AttemptStands slot.votes slot.sent n (with_acceptance from a) s) (sym e) after;
-      }
+      IsAttempt-counted n i from a value slot.votes (bars_of slot.acceptors i) slot.sent ((sound.agreed.acceptors from).within a.ballot value vote) vote attempt e
 
   pub IsSound-accepted : (n i from ballot : ℕ) (slot : SlotState V) → Contains slot.sent (Accepted from ballot) → IsSound n slot →
       (stood : Option (Attempt V)) → slot.attempts i ≡ stood → IsSound n (accepted_comes i from ballot stood slot)
