@@ -6,7 +6,7 @@ use Rattle.msg_wire.specs.Heeded.{is_heeded}
 use Rattle.node_rules.specs.Names.{NodeId, Entry, Item, Message, What, Mark, Event}
 use Rattle.node_rules.specs.Names.events
 use Rattle.node_rules.specs.Names.whats
-use Rattle.node_rules.specs.Nodes.{Base, Node, agreed_by, knowing, has_slot, asked_by}
+use Rattle.node_rules.specs.Nodes.{Base, Node, agreed_by, knowing, reset_base, has_slot, asked_by}
 use Rattle.node_rules.specs.Turns.{Turn, started, count_known, put_own, store, send, show}
 use Rattle.node_rules.specs.Rules.{learned, with_seen, with_tick}
 
@@ -75,3 +75,57 @@ same_own s entry = s.own
 
 abbrev pub Sites : {S : Type 0} → Places S → (Turn S → Type 0) → Node S → Event → Type 0
 Sites p W n event = SitesAfter p same_own W n event
+
+-- ---- laws that look at less
+
+-- a turn as it is with nothing sent, at a node that was told and counted nothing
+abbrev pub unsent : {S : Type 0} → Turn S → Turn S
+unsent t = record { state = record { base = reset_base t.state.base; own = t.state.own }; stable = t.stable; sends = []; marks = t.marks }
+
+-- what is kept of such a turn, at the places that can change it
+pub record UnsentSites {S : Type 0} (p : Places S) (after : Node S → Entry → S) (W : Turn S → Type 0) (n : Node S) (event : Event) : Type 0 where
+  pub starts : W (unsent (started n))
+  pub restarts : event ≡ events.Restart → W (unsent (restarted p n))
+  pub learns : (t : Turn S) (entry : Entry) → p.Learns n event t.state entry → W (unsent t) → W (unsent (put_own (after t.state entry) (learned entry t)))
+  pub shows : (t : Turn S) (mark : Mark) → p.Shows n event t.state mark → W (unsent t) → W (unsent (show mark t))
+  pub stores : (t : Turn S) (item : Item) (own : S) → p.Stores n event t.state item own → W (unsent t) → W (unsent (put_own own (store item t)))
+  pub changes : (t : Turn S) (own : S) → p.Changes n event t.state own → W (unsent t) → W (unsent (put_own own t))
+
+pub unsent_sites : {S : Type 0} {p : Places S} {after : Node S → Entry → S} (W : Turn S → Type 0) {n : Node S} {event : Event} → UnsentSites p after W n event
+    → SitesAfter p after (λ t. W (unsent t)) n event
+unsent_sites W s = record {
+  starts = s.starts;
+  restarts = s.restarts;
+  learns = s.learns;
+  sees = λ t from slot count entry why w. w;
+  ticks = λ t why w. w;
+  asks = λ t to why w. w;
+  says = λ t to what why w. w;
+  shows = s.shows;
+  stores = s.stores;
+  changes = s.changes;
+}
+
+-- a turn as it is with nothing sent and nothing shown
+abbrev pub unshown : {S : Type 0} → Turn S → Turn S
+unshown t = record (unsent t) { marks = [] }
+
+pub record UnshownSites {S : Type 0} (p : Places S) (after : Node S → Entry → S) (W : Turn S → Type 0) (n : Node S) (event : Event) : Type 0 where
+  pub starts : W (unshown (started n))
+  pub restarts : event ≡ events.Restart → W (unshown (restarted p n))
+  pub learns : (t : Turn S) (entry : Entry) → p.Learns n event t.state entry → W (unshown t) → W (unshown (put_own (after t.state entry) (learned entry t)))
+  pub stores : (t : Turn S) (item : Item) (own : S) → p.Stores n event t.state item own → W (unshown t) → W (unshown (put_own own (store item t)))
+  pub changes : (t : Turn S) (own : S) → p.Changes n event t.state own → W (unshown t) → W (unshown (put_own own t))
+
+pub unshown_sites : {S : Type 0} {p : Places S} {after : Node S → Entry → S} (W : Turn S → Type 0) {n : Node S} {event : Event} → UnshownSites p after W n event
+    → SitesAfter p after (λ t. W (unshown t)) n event
+unshown_sites W s =
+    unsent_sites (λ t. W (unshown t))
+    (record {
+      starts = s.starts;
+      restarts = s.restarts;
+      learns = s.learns;
+      shows = λ t mark why w. w;
+      stores = s.stores;
+      changes = s.changes;
+    })

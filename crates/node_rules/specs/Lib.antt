@@ -1,10 +1,10 @@
 pub mod Names
 pub mod Bases
 pub mod Sound
-pub mod Insides
 pub mod Nodes
 pub mod Turns
 pub mod Rules
 pub mod Acting
 pub mod Lives
 pub mod Examples
+pub mod inside

@@ -42,7 +42,7 @@ impl Model for NodeBase {
 
     ghost Value = { Base };
 
-    ghost use Rattle.node_rules.specs.Insides.{base_of, IsBaseInside};
+    ghost use Rattle.node_rules.specs.inside.Kept.{base_of, IsBaseInside};
 
     ghost view = { base_of };
 
