@@ -21,7 +21,7 @@ use Rattle.seq_node.specs.Attempts.{hear_promise, attempt_stands, ballot_below, 
 use Rattle.seq_node.specs.Rules.{with_wish, idle_longer}
 use Rattle.seq_node.specs.Steps.{handle, sequencer_step}
 use Rattle.seq_node.specs.Sound.{MayBeValid, IsAttempt, MayBeAttempt, IsSequencer}
-use Rattle.seq_node.specs.UnderWay.{IsUnderWay}
+use Rattle.seq_node.specs.inside.UnderWay.{IsUnderWay}
 use Rattle.seq_node.proofs.Places.{promise_alone, SequencerSites, sequencer_places}
 use Rattle.seq_node.proofs.Lives.{kept_step}
 use Rattle.seq_node.proofs.Walk.{walk_promise, walk_wish, walk_idle, walk_handle}

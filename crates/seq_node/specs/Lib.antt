@@ -6,7 +6,7 @@ pub mod Rules
 pub mod Steps
 pub mod Restart
 pub mod Sound
-pub mod UnderWay
 pub mod Laws
 pub mod Messages
 pub mod Worked
+pub mod inside

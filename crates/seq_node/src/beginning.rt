@@ -9,7 +9,7 @@ ghost use Rattle.node_rules.specs.Turns.{turn_of, started};
 ghost use Rattle.seq_node.specs.States.{standing_ballot};
 ghost use Rattle.seq_node.specs.Attempts.{ballot_below, new_ballot, attempt_stands, first_sends, alone, begin_with, begin};
 ghost use Rattle.seq_node.specs.Rules.{begin_if_free};
-ghost use Rattle.seq_node.specs.UnderWay.{IsUnderWay};
+ghost use Rattle.seq_node.specs.inside.UnderWay.{IsUnderWay};
 
 use crate::attempts::{hear_acceptance, hear_promise, send_value};
 use crate::state::{Sequencer, SlotAttempt};

@@ -25,7 +25,7 @@ impl Learns for SequencerState {
 
 impl Hears for SequencerState {
     ghost use Rattle.seq_node.specs.Steps as steps;
-    ghost use Rattle.seq_node.specs.UnderWay.{IsUnderWay};
+    ghost use Rattle.seq_node.specs.inside.UnderWay.{IsUnderWay};
 
     ghost hear = { steps.hear };
 

@@ -8,7 +8,7 @@ ghost use Rattle.node_rules.specs.Names.events;
 ghost use Rattle.node_rules.specs.Turns.{turn_of, empty_step};
 ghost use Rattle.seq_node.specs.Steps.{hear, ends_with_beginning, finish, sequencer_step};
 ghost use Rattle.seq_node.specs.Sound.{IsSequencer};
-ghost use Rattle.seq_node.specs.UnderWay.{IsUnderWay};
+ghost use Rattle.seq_node.specs.inside.UnderWay.{IsUnderWay};
 
 use crate::attempts::{hear_acceptance, hear_promise};
 use crate::beginning::begin_if_free;

@@ -8,7 +8,7 @@ ghost use Rattle.node_rules.specs.Names.{Step as StepOf};
 ghost use Rattle.node_rules.specs.Turns.{turn_of};
 ghost use Rattle.msg_wire.specs.Valid.{IsValidCommand};
 ghost use Rattle.seq_node.specs.Rules.{with_wish, take_command, fill, fill_lagging, idle_longer, begin_when_idle, on_tick};
-ghost use Rattle.seq_node.specs.UnderWay.{IsUnderWay};
+ghost use Rattle.seq_node.specs.inside.UnderWay.{IsUnderWay};
 
 use crate::beginning::{begin, begin_if_free};
 use crate::state::Sequencer;

@@ -4,7 +4,7 @@ use Rattle.node_rules.specs.Nodes.{Node}
 use Rattle.node_rules.specs.Turns.{turn_of}
 use Rattle.seq_node.specs.States.{SequencerState}
 use Rattle.seq_node.specs.Sound.{IsSequencer}
-use Rattle.seq_node.specs.UnderWay.{IsUnderWay}
+use Rattle.seq_node.specs.inside.UnderWay.{IsUnderWay}
 use Rattle.seq_node.proofs.UnderWays.{goes_promise, among_replicas, sends_valid, has_its_slot}
 use Rattle.seq_node.proofs.beginning.alone.Goals as goal
 

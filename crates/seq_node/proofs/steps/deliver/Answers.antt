@@ -3,7 +3,7 @@ use Rattle.node_rules.specs.Names.events
 use Rattle.node_rules.specs.Turns.{turn_of}
 use Rattle.node_rules.proofs.Lists.{on_ok}
 use Rattle.seq_node.specs.Steps.{handle, finish}
-use Rattle.seq_node.specs.UnderWay.{IsUnderWay}
+use Rattle.seq_node.specs.inside.UnderWay.{IsUnderWay}
 use Rattle.seq_node.proofs.UnderWays.{goes_event}
 use Rattle.seq_node.proofs.steps.deliver.Goals as goal
 

@@ -2,7 +2,7 @@ use Rattle.std.proofs.Common.{ap, sym, subst, ◌∙◌}
 use Rattle.node_rules.specs.Turns.{turn_of}
 use Rattle.node_rules.proofs.Lists.{on_ok}
 use Rattle.seq_node.specs.Rules.{idle_longer, begin_when_idle}
-use Rattle.seq_node.specs.UnderWay.{IsUnderWay}
+use Rattle.seq_node.specs.inside.UnderWay.{IsUnderWay}
 use Rattle.seq_node.proofs.UnderWays.{goes_idle}
 use Rattle.seq_node.proofs.ticks.on_tick.Goals as goal
 

@@ -1,6 +1,6 @@
 use Rattle.std.proofs.Common.{subst, sym}
 use Rattle.node_rules.specs.Turns.{turn_of}
-use Rattle.seq_node.specs.UnderWay.{IsUnderWay}
+use Rattle.seq_node.specs.inside.UnderWay.{IsUnderWay}
 use Rattle.seq_node.proofs.UnderWays.{goes_step, step_valid}
 use Rattle.seq_node.proofs.node.SequencerStateKind.react.Goals as goal
 
