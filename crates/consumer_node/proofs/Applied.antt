@@ -5,7 +5,7 @@ use Rattle.std.specs.Option.{option_and_then}
 use Rattle.std.proofs.lemmas.Bool.{cases_Bool, cases_lt, eqb-true}
 use Rattle.std.proofs.lemmas.List.{take-append-le, length-take-le}
 use Rattle.std.proofs.lemmas.Option.{slice_get_within, same_Some}
-use Rattle.consumer_node.specs.Names.{Owner, IsValidRecord, Agreement, count_of, lane_of, Node, agreed_by, ConsumerState, held_of, held_for, IsOwn, IsConsumer}
+use Rattle.consumer_node.specs.inside.Names.{Owner, IsValidRecord, Agreement, count_of, lane_of, Node, agreed_by, ConsumerState, held_of, held_for, IsOwn, IsConsumer}
 use Rattle.record_codec.specs.declared.record.Record.{Record}
 use Rattle.cut_core.specs.Map.{rest_of, granted_layout, map_of, mapped}
 use Rattle.cut_core.proofs.Dense.{map-dense}

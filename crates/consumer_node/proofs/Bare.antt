@@ -5,9 +5,9 @@ use Rattle.std.specs.List.{fold}
 use Rattle.std.specs.Option.{option_map_or}
 use Rattle.std.proofs.lemmas.Bool.{cond-true}
 use Rattle.std.proofs.lemmas.List.{length-map, ext_get_or}
-use Rattle.consumer_node.specs.Names.{Owner, Gone, count_of, located, gone_end, LaneState, fresh_lane, after_put, put_answer, closed, emptied, lane_of}
-use Rattle.consumer_node.specs.Names.{with_record, with_floor, without_records, Meaning, ConsumerState, with_confirmed, close, fit, closed_by, reset_of}
-use Rattle.consumer_node.specs.Names.{IsConsumer}
+use Rattle.consumer_node.specs.inside.Names.{Owner, Gone, count_of, located, gone_end, LaneState, fresh_lane, after_put, put_answer, closed, emptied, lane_of}
+use Rattle.consumer_node.specs.inside.Names.{with_record, with_floor, without_records, Meaning, ConsumerState, with_confirmed, close, fit, closed_by, reset_of}
+use Rattle.consumer_node.specs.inside.Names.{IsConsumer}
 use Rattle.record_codec.specs.declared.record.Record.{Record}
 use Rattle.node_rules.specs.Names.{Entry}
 use Rattle.node_rules.specs.Names.items

@@ -6,7 +6,7 @@ use Rattle.std.specs.List.{AllByRecursion, filter, fold, range_with_len}
 use Rattle.std.proofs.lemmas.List.Elements.{All-set, All-from_recursion, recursion_from_All, filter_passes}
 use Rattle.spec_delivery.specs.Lanes.{LaneState, fresh_lane, IsInReach, HoldsInReach, held_at, closed}
 use Rattle.spec_delivery.specs.Buffers.{lane_of, without_records, with_end}
-use Rattle.consumer_node.specs.Names.{IsLane, Gone, end_among, close}
+use Rattle.consumer_node.specs.inside.Names.{IsLane, Gone, end_among, close}
 use Rattle.consumer_node.proofs.Lanes.{lane_fresh, lane_emptied, lane_closed, held_closed}
 use Rattle.std.specs.Option.{option_map_or}
 use Rattle.std.proofs.lemmas.Bool.{cases_Bool, cases_eq, cond-true, cond-false, eqb-true, eqb-false, lt-ltb}
@@ -14,7 +14,7 @@ use Rattle.std.proofs.lemmas.List.{get_or-set_same, get_or-set_other, set-get_or
 use Rattle.cut_core.proofs.Ends.{AreCounts, end_among-counted}
 use Rattle.node_rules.specs.Names.{Record}
 use Rattle.node_rules.proofs.Lists.{all_weaken}
-use Rattle.consumer_node.specs.Closing.{close_shard}
+use Rattle.consumer_node.specs.inside.Closing.{close_shard}
 
 -- ---- one shard's records change
 

@@ -3,8 +3,8 @@ use Rattle.std.proofs.Common.{ℕ, ◌+◌, ◌≤◌, List, length-set, ◌∙�
 use Rattle.std.proofs.lemmas.List.{length-map}
 use Rattle.std.proofs.lemmas.List.Elements.{All-map, All-from_recursion, recursion_from_All}
 use Rattle.node_rules.proofs.Lists.{all_weaken}
-use Rattle.consumer_node.specs.Names.{LaneState, raised, emptied, lane_of, with_floor, without_records}
-use Rattle.consumer_node.specs.Kept.{AreLanes}
+use Rattle.consumer_node.specs.inside.Names.{LaneState, raised, emptied, lane_of, with_floor, without_records}
+use Rattle.consumer_node.specs.inside.Kept.{AreLanes}
 use Rattle.consumer_node.proofs.Closings.{all_of, all_set}
 
 abbrev IsLow : ℕ → LaneState → Type 0

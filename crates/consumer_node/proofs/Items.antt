@@ -2,8 +2,8 @@
 use Rattle.std.proofs.Common.{◌≡◌, true, List, [], ◌∷◌, length, drop, Option, Some, None, refl, ap, arith}
 use Rattle.std.specs.List.{fold}
 use Rattle.std.specs.Option.{option_map_or}
-use Rattle.consumer_node.specs.Names.{IsValidEntry, Owner, IsBelowFirst, effect_of, located, IsValidConfig, IsNodeOf, IsValidItem, AreValidItems, Node}
-use Rattle.consumer_node.specs.Names.{first_window, agreed_by, has_slot, knowing, with_own, IsBase, Meaning, ConsumerState, with_confirmed, IsConsumer}
+use Rattle.consumer_node.specs.inside.Names.{IsValidEntry, Owner, IsBelowFirst, effect_of, located, IsValidConfig, IsNodeOf, IsValidItem, AreValidItems, Node}
+use Rattle.consumer_node.specs.inside.Names.{first_window, agreed_by, has_slot, knowing, with_own, IsBase, Meaning, ConsumerState, with_confirmed, IsConsumer}
 use Rattle.node_rules.specs.Names.{NodeId, Config, Entry, Record, Item}
 use Rattle.node_rules.specs.Names.items
 use Rattle.node_rules.proofs.Lists.{on_test}

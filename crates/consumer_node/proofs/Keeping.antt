@@ -1,7 +1,7 @@
 -- What a consumer keeps, as records are applied, taken back and confirmed.
 use Rattle.std.proofs.Common.{◌≡◌, ℕ, zero, suc, ◌+◌, ◌-◌, ◌<◌, ◌≤◌, ◌^◌, min, List, [], ◌∷◌, ◌++◌, length, take, refl, sym, ap, subst, ◌∙◌, arith, length-append}
 use Rattle.std.proofs.lemmas.List.{length-take, take_min}
-use Rattle.consumer_node.specs.Names.{fold_of, below, from_on, LaneState, ConsumerState}
+use Rattle.consumer_node.specs.inside.Names.{fold_of, below, from_on, LaneState, ConsumerState}
 use Rattle.app_law.proofs.Folds.{fold_of-append}
 use Rattle.undo_points.specs.declared.points.UndoPoint.{UndoPoint}
 use Rattle.undo_points.specs.Points.{Points, point_position, pushed, points_below, points_from, taken_back, Gave}
@@ -9,7 +9,7 @@ use Rattle.undo_points.proofs.PointLemmas.{Gave-push}
 use Rattle.output_gate.specs.declared.kept.KeptOut.{KeptOut}
 use Rattle.output_gate.specs.Gates.{Gate, out_position, holding, gate_below, gate_from}
 use Rattle.node_rules.specs.Names.{Record}
-use Rattle.consumer_node.specs.Kept.{StandFrom, GaveOutputs, IsKeptFrom, IsKept, HasRoom}
+use Rattle.consumer_node.specs.inside.Kept.{StandFrom, GaveOutputs, IsKeptFrom, IsKept, HasRoom}
 use Rattle.consumer_node.proofs.Standing.{stand-push, stand-past, stand-take, below-take, below-next, from_on-next, stand-next}
 
 pub state-made : {A : Type 0} (lanes more : List LaneState) (confirmed counted : ℕ) (base same : A) (pending recs : List Record) → lanes ≡ more

@@ -6,7 +6,7 @@ use Rattle.std.specs.Option.{IsSome}
 use Rattle.std.specs.Ordering.{nat_cmp, eq_by_cmp}
 use Rattle.std.proofs.lemmas.Bool.{cond_both, ltb-false, leb-false, or_parts}
 use Rattle.record_codec.specs.declared.record.Record.{Record}
-use Rattle.consumer_node.specs.Names.{IsValidRecord, IsLane}
+use Rattle.consumer_node.specs.inside.Names.{IsValidRecord, IsLane}
 use Rattle.spec_delivery.specs.declared.put.Put.{Put}
 use Rattle.spec_delivery.specs.declared.put.Put.TheVariants.{Old, Far, Again, Kept}
 use Rattle.spec_delivery.specs.Lanes.{LaneState, IsBeforeEnd, IsInReach, fresh_lane, held_at, is_past_end, put_answer, after_put, raised, closed, emptied}

@@ -6,9 +6,9 @@ use Rattle.std.proofs.lemmas.Bool.{cases_Bool, cond-false, or_left, or_right}
 use Rattle.std.proofs.lemmas.List.{take-append-le, length-take}
 use Rattle.std.proofs.lemmas.Option.{slice_get_within}
 use Rattle.quota_table.specs.declared.entry.Entry.{Entry}
-use Rattle.consumer_node.specs.Names.{Gone, Agreement, agreement_from, count_of, effect_of, map_of, mapped, gone_end, end_among, IsBelowFirst, LaneState}
-use Rattle.consumer_node.specs.Names.{held_at, lane_of, Base, first_window, agreed_by, knowing, IsBase, ConsumerState, with_pending, held_of, close, close_gone}
-use Rattle.consumer_node.specs.Names.{IsOwn}
+use Rattle.consumer_node.specs.inside.Names.{Gone, Agreement, agreement_from, count_of, effect_of, map_of, mapped, gone_end, end_among, IsBelowFirst, LaneState}
+use Rattle.consumer_node.specs.inside.Names.{held_at, lane_of, Base, first_window, agreed_by, knowing, IsBase, ConsumerState, with_pending, held_of, close, close_gone}
+use Rattle.consumer_node.specs.inside.Names.{IsOwn}
 use Rattle.cut_core.specs.Fold.{applied}
 use Rattle.cut_core.proofs.AgreeingLemmas.{covered-applied, mapped-applied, applied_all-push}
 use Rattle.cut_core.proofs.Ends.{is_among, end_among-counted}

@@ -4,9 +4,9 @@ use Rattle.std.proofs.Common.{◌≡◌, List, [], ◌∷◌, refl, sym, ap, ◌
 use Rattle.std.specs.List.{AllByRecursion, fold}
 use Rattle.std.proofs.lemmas.List.Sums.{fold-append}
 use Rattle.msg_wire.specs.Steps.{IsValidStep}
-use Rattle.consumer_node.specs.Names.{IsValidConfig, IsNodeOf, IsValidEvent, AreValidItems, Node, agreed_by, with_own, Meaning, ConsumerState, applied_of}
-use Rattle.consumer_node.specs.Names.{with_pending, consumer_step, handle, fit, closed_by, fresh_node, IsConsumer, held_for, Owner, IsValidRecord}
-use Rattle.consumer_node.specs.Names.{located, with_confirmed}
+use Rattle.consumer_node.specs.inside.Names.{IsValidConfig, IsNodeOf, IsValidEvent, AreValidItems, Node, agreed_by, with_own, Meaning, ConsumerState, applied_of}
+use Rattle.consumer_node.specs.inside.Names.{with_pending, consumer_step, handle, fit, closed_by, fresh_node, IsConsumer, held_for, Owner, IsValidRecord}
+use Rattle.consumer_node.specs.inside.Names.{located, with_confirmed}
 use Rattle.node_rules.specs.Names.{NodeId, Config, Event, Record}
 use Rattle.node_rules.specs.Turns.{Turn, step_of, started}
 use Rattle.node_rules.specs.Lives.{Life, lived_on}

@@ -6,13 +6,13 @@ use Rattle.std.specs.Option.{option_map_or, option_and_then, some_prefix}
 use Rattle.std.proofs.Math.Seq.{drop-cons}
 use Rattle.std.proofs.lemmas.Grind.{fold-append}
 use Rattle.std.proofs.lemmas.Option.{slice_get_within, get_or_from_slice_get}
-use Rattle.consumer_node.specs.Names.{Owner, map_of, Node, agreed_by, Turn, own_of, agreed, put_own, Meaning, held_for}
+use Rattle.consumer_node.specs.inside.Names.{Owner, map_of, Node, agreed_by, Turn, own_of, agreed, put_own, Meaning, held_for}
 use Rattle.fix_ante.proofs.LocalLemmas.{range_with_len-append}
 use Rattle.node_rules.specs.Names.{Record}
 use Rattle.node_rules.proofs.Lists.{on_test}
 use Rattle.consumer_node.specs.States.{ConsumerState, applied}
 use Rattle.consumer_node.specs.Speculation.{held_of, to_apply, apply, apply_all, with_confirmed, confirm_at, confirm, confirm_some}
-use Rattle.consumer_node.specs.Confirming.{confirm_first, confirm_oldest, confirm_count}
+use Rattle.consumer_node.specs.inside.Confirming.{confirm_first, confirm_oldest, confirm_count}
 use Rattle.consumer_node.proofs.Applied.{some_at}
 
 -- ---- one number more

@@ -2,11 +2,11 @@
 use Rattle.std.proofs.Common.{◌≡◌, ℕ, List, [], ◌∷◌, ◌++◌, Option, Some, None}
 use Rattle.std.specs.List.{fold}
 use Rattle.std.proofs.lemmas.List.Sums.{fold-append}
-use Rattle.consumer_node.specs.Names.{Event, Mark, Node, Turn, own_of, Meaning, consumer_step}
+use Rattle.consumer_node.specs.inside.Names.{Event, Mark, Node, Turn, own_of, Meaning, consumer_step}
 use Rattle.node_rules.specs.Names.events
 use Rattle.node_rules.specs.Names.marks
 use Rattle.consumer_node.specs.States.{ConsumerState, applied}
-use Rattle.consumer_node.proofs.Places.{Stage, removal_shown, StagedSites}
+use Rattle.consumer_node.proofs.Places.{Stage, removal_shown, StagedSites, Unsent, unsent_stages}
 use Rattle.consumer_node.proofs.Walk.{staged_walk}
 
 abbrev next : Option ℕ → Mark → Option ℕ
@@ -33,26 +33,24 @@ module _ {A : Type 0} (app : Meaning A) (n : Node (ConsumerState A)) (event : Ev
   abbrev W : Stage → Turn (ConsumerState A) → Type 0
   W stage t = Paired None t.marks × AtStage stage (fold next None t.marks)
 
-  sites : StagedSites app W n event
-  sites = record {
-    asks = λ t to why w. w;
-    says = λ t to what why w. w;
-    sees = λ t from slot count entry comes w. w;
-    ticks = λ t comes w. w;
-    holds = λ t from local rec comes w. w;
-    learns = λ t entry told w. (w.0, tt);
-    notices = λ t shard first w. (push None t.marks (marks.Notice first) w.0 tt, fold-append next None t.marks (marks.Notice first ∷ []));
-    undoes = λ t first past w. (push None t.marks (marks.Undo first) w.0 w.1, tt);
-    undoes_none = λ t first none w. (w.0, tt);
-    moves_none = λ t effect stays w. (w.0, tt);
-    closes = λ t w. (w.0, tt);
-    applies = λ t rec held w. (push None t.marks (marks.Apply (applied t) rec) w.0 tt, tt);
-    leaves_none = λ t none w. (w.0, tt);
-    confirms = λ t rec o why w. (push None t.marks (marks.Confirm (own_of t).confirmed rec) w.0 tt, tt);
-    gives = λ t output some w. (push None t.marks (marks.Out output) w.0 tt, tt);
-    gives_none = λ t output none w. (w.0, tt);
-    restarts = λ same w. absurd (other same);
-  }
+  sites : StagedSites app (Unsent W) n event
+  sites =
+      unsent_stages app W n event
+      (record {
+        holds = λ t from local rec comes w. w;
+        learns = λ t entry told w. (w.0, tt);
+        notices = λ t shard first w. (push None t.marks (marks.Notice first) w.0 tt, fold-append next None t.marks (marks.Notice first ∷ []));
+        undoes = λ t first past w. (push None t.marks (marks.Undo first) w.0 w.1, tt);
+        undoes_none = λ t first none w. (w.0, tt);
+        moves_none = λ t effect stays w. (w.0, tt);
+        closes = λ t w. (w.0, tt);
+        applies = λ t rec held w. (push None t.marks (marks.Apply (applied t) rec) w.0 tt, tt);
+        leaves_none = λ t none w. (w.0, tt);
+        confirms = λ t rec o why w. (push None t.marks (marks.Confirm (own_of t).confirmed rec) w.0 tt, tt);
+        gives = λ t output some w. (push None t.marks (marks.Out output) w.0 tt, tt);
+        gives_none = λ t output none w. (w.0, tt);
+        restarts = λ same w. absurd (other same);
+      })
 
   pub undos_have_notices : Paired None (consumer_step app n event).marks
-  undos_have_notices = (staged_walk app W n event sites (tt, tt)).0
+  undos_have_notices = (staged_walk app (Unsent W) n event sites (tt, tt)).0

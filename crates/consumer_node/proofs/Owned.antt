@@ -5,8 +5,8 @@ use Rattle.std.specs.Option.{option_and_then}
 use Rattle.std.proofs.lemmas.Bool.{cases_Bool, cases_lt, eqb-true, eqb-false}
 use Rattle.std.proofs.lemmas.List.{length-drop, length-map, get_or-replicate, get_or-set_same, get_or-set_other}
 use Rattle.std.proofs.lemmas.Option.{slice_get_within, same_Some}
-use Rattle.consumer_node.specs.Names.{Owner, AppKind, IsValidRecord, Agreement, agreement_from, count_of, LaneState, fresh_lane, held_at, after_put, raised}
-use Rattle.consumer_node.specs.Names.{emptied, Meaning, held_of, with_confirmed}
+use Rattle.consumer_node.specs.inside.Names.{Owner, AppKind, IsValidRecord, Agreement, agreement_from, count_of, LaneState, fresh_lane, held_at, after_put, raised}
+use Rattle.consumer_node.specs.inside.Names.{emptied, Meaning, held_of, with_confirmed}
 use Rattle.fix_ante.proofs.Entries.{slice_get-append_left, slice_get-append_right}
 use Rattle.record_codec.specs.declared.record.Record.{Record}
 use Rattle.fix_ante.specs.Windows.{Window}

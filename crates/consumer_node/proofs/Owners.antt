@@ -3,8 +3,8 @@ use Rattle.std.proofs.Common.{◌≡◌, ℕ, ◌+◌, ◌<◌, ◌≤◌, ◌^�
 use Rattle.std.specs.List.{AllByRecursion, list_all}
 use Rattle.std.proofs.lemmas.Bool.{and_parts, ltb-true}
 use Rattle.quota_table.specs.Rows.{is_row}
-use Rattle.consumer_node.specs.Names.{IsValidEntry, Owner, Agreement, agreement_from, map_of, mapped, located, IsValidConfig, Base, first_window, agreed_by}
-use Rattle.consumer_node.specs.Names.{IsBase}
+use Rattle.consumer_node.specs.inside.Names.{IsValidEntry, Owner, Agreement, agreement_from, map_of, mapped, located, IsValidConfig, Base, first_window, agreed_by}
+use Rattle.consumer_node.specs.inside.Names.{IsBase}
 use Rattle.cut_core.specs.Fold.{applied, applied_all, HasValidTable}
 use Rattle.cut_core.specs.Soundness.{IsSound}
 use Rattle.cut_core.proofs.Sound.{IsSound-applied}

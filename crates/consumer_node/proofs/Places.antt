@@ -2,15 +2,15 @@
 -- holds between its rules alone: inside a rule, and as a step ends, something else may hold at each stage.
 use Rattle.std.proofs.Common.{◌≡◌, ℕ, ◌<◌, true, List, [], ◌∷◌, ◌++◌, length, Some, ◌≤◌, None}
 use Rattle.std.specs.List.{slice_get}
-use Rattle.consumer_node.specs.Names.{Owner, Effect, Removed, Agreement, effect_of, mapped, located, number_of, with_record, Base, Node, agreed_by, Meaning}
-use Rattle.consumer_node.specs.Names.{with_confirmed, apply, held_for, reset_of, IsBelowFirst}
+use Rattle.consumer_node.specs.inside.Names.{Owner, Effect, Removed, Agreement, effect_of, mapped, located, number_of, with_record, Base, Node, agreed_by, Meaning}
+use Rattle.consumer_node.specs.inside.Names.{with_confirmed, apply, held_for, reset_of, IsBelowFirst}
 use Rattle.node_rules.specs.Names.{NodeId, Side, Entry, Event, Record, Item, What, Mark}
 use Rattle.node_rules.specs.Names.events
 use Rattle.node_rules.specs.Names.items
 use Rattle.node_rules.specs.Names.marks
 use Rattle.node_rules.specs.Names.nodes
 use Rattle.node_rules.specs.Names.whats
-use Rattle.node_rules.proofs.Places.{Comes, IsTold, HasLearned, Places, Asks}
+use Rattle.node_rules.proofs.Places.{Comes, IsTold, HasLearned, Places, Asks, unsent}
 use Rattle.consumer_node.specs.States.{ConsumerState, applied_of, with_lanes, with_pending, cut_off, applied}
 use Rattle.consumer_node.specs.Rules.{close_gone, is_wanted, hear_deliver, cut_to, close_all}
 use Rattle.node_rules.specs.Turns.{Turn, started, own_of, agreed, count_known, put_own, store, send, show}
@@ -91,6 +91,34 @@ confirmed_by app rec o t =
     put_own (with_confirmed app rec o (own_of t))
     (show (marks.Confirm (own_of t).confirmed rec) (store (items.Confirmed rec (app.output (own_of t).base rec)) t))
 
+-- what the places make of it that change the node, store or show
+pub record StageSites {A : Type 0} (app : Meaning A) (Before After : Stage → Turn (ConsumerState A) → Type 0) (n : Node (ConsumerState A))
+    (event : Event) : Type 0 where
+  -- Deliver
+  pub holds : (t : Turn (ConsumerState A)) (from : NodeId) (local : ℕ) (rec : Record) → Comes n event from (whats.Deliver local rec) → Before between_rules t
+      → After between_rules (hear_deliver (number_of from) local rec t)
+  -- a learned entry
+  pub learns : (t : Turn (ConsumerState A)) (entry : Entry) → IsTold n event t.state entry → Before between_rules t
+      → After (entry_known (effect_of (agreed t) entry)) (learned entry t)
+  pub notices : (t : Turn (ConsumerState A)) (shard first : ℕ) → Before (entry_known (Removed shard first)) t
+      → After (removal_shown first) (show (marks.Notice first) t)
+  pub undoes : (t : Turn (ConsumerState A)) (first : ℕ) → first < applied t → Before (removal_shown first) t
+      → After undo_done (show (marks.Undo first) (cut_to first t))
+  pub undoes_none : (t : Turn (ConsumerState A)) (first : ℕ) → applied t ≤ first → Before (removal_shown first) t → After undo_done t
+  pub moves_none : (t : Turn (ConsumerState A)) (effect : Effect) → ((position : ℕ) → IsBelowFirst effect position) → Before (entry_known effect) t
+      → After undo_done t
+  pub closes : (t : Turn (ConsumerState A)) → Before undo_done t → After between_rules (close_all t)
+  -- the end of a step
+  pub applies : (t : Turn (ConsumerState A)) (rec : Record) → held_for (agreed t) (own_of t) (applied t) ≡ Some rec → Before between_rules t
+      → After between_rules (apply t rec)
+  pub leaves_none : (t : Turn (ConsumerState A)) → held_for (agreed t) (own_of t) (applied t) ≡ None → Before between_rules t → After all_applied t
+  pub confirms : (t : Turn (ConsumerState A)) (rec : Record) (o : Owner) → Confirms t.state rec o → Before all_applied t
+      → After (output_due (app.output (own_of t).base rec)) (confirmed_by app rec o t)
+  pub gives : (t : Turn (ConsumerState A)) (output : List ℕ) → 0 < length output → Before (output_due output) t → After all_applied (show (marks.Out output) t)
+  pub gives_none : (t : Turn (ConsumerState A)) (output : List ℕ) → output ≡ [] → Before (output_due output) t → After all_applied t
+  -- Restart
+  pub restarts : event ≡ events.Restart → Before between_rules (started n) → After all_applied (restart n)
+
 -- each place keeps what holds of a turn at each stage; a step that keeps it begins between rules, and ends with all applied
 pub record StagedSites {A : Type 0} (app : Meaning A) (W : Stage → Turn (ConsumerState A) → Type 0) (n : Node (ConsumerState A)) (event : Event) : Type 0 where
   pub asks : (t : Turn (ConsumerState A)) (to : NodeId) → Asks n event t.state to → W between_rules t
@@ -99,24 +127,18 @@ pub record StagedSites {A : Type 0} (app : Meaning A) (W : Stage → Turn (Consu
   pub sees : (t : Turn (ConsumerState A)) (from : NodeId) (slot count : ℕ) (entry : Entry) → Comes n event from (whats.Decided slot count entry)
       → W between_rules t → W between_rules (with_seen count t)
   pub ticks : (t : Turn (ConsumerState A)) → event ≡ events.Tick → W between_rules t → W between_rules (with_tick t)
-  -- Deliver
-  pub holds : (t : Turn (ConsumerState A)) (from : NodeId) (local : ℕ) (rec : Record) → Comes n event from (whats.Deliver local rec) → W between_rules t
-      → W between_rules (hear_deliver (number_of from) local rec t)
-  -- a learned entry
-  pub learns : (t : Turn (ConsumerState A)) (entry : Entry) → IsTold n event t.state entry → W between_rules t
-      → W (entry_known (effect_of (agreed t) entry)) (learned entry t)
-  pub notices : (t : Turn (ConsumerState A)) (shard first : ℕ) → W (entry_known (Removed shard first)) t → W (removal_shown first) (show (marks.Notice first) t)
-  pub undoes : (t : Turn (ConsumerState A)) (first : ℕ) → first < applied t → W (removal_shown first) t → W undo_done (show (marks.Undo first) (cut_to first t))
-  pub undoes_none : (t : Turn (ConsumerState A)) (first : ℕ) → applied t ≤ first → W (removal_shown first) t → W undo_done t
-  pub moves_none : (t : Turn (ConsumerState A)) (effect : Effect) → ((position : ℕ) → IsBelowFirst effect position) → W (entry_known effect) t → W undo_done t
-  pub closes : (t : Turn (ConsumerState A)) → W undo_done t → W between_rules (close_all t)
-  -- the end of a step
-  pub applies : (t : Turn (ConsumerState A)) (rec : Record) → held_for (agreed t) (own_of t) (applied t) ≡ Some rec → W between_rules t
-      → W between_rules (apply t rec)
-  pub leaves_none : (t : Turn (ConsumerState A)) → held_for (agreed t) (own_of t) (applied t) ≡ None → W between_rules t → W all_applied t
-  pub confirms : (t : Turn (ConsumerState A)) (rec : Record) (o : Owner) → Confirms t.state rec o → W all_applied t
-      → W (output_due (app.output (own_of t).base rec)) (confirmed_by app rec o t)
-  pub gives : (t : Turn (ConsumerState A)) (output : List ℕ) → 0 < length output → W (output_due output) t → W all_applied (show (marks.Out output) t)
-  pub gives_none : (t : Turn (ConsumerState A)) (output : List ℕ) → output ≡ [] → W (output_due output) t → W all_applied t
-  -- Restart
-  pub restarts : event ≡ events.Restart → W between_rules (started n) → W all_applied (restart n)
+  pub rules : StageSites app W W n event
+
+-- of a law that looks at no message, and neither at what the node was told nor at its ticks, the other places say nothing
+abbrev pub Unsent : {A : Type 0} → (Stage → Turn (ConsumerState A) → Type 0) → Stage → Turn (ConsumerState A) → Type 0
+Unsent V stage t = V stage (unsent t)
+
+pub unsent_stages : {A : Type 0} (app : Meaning A) (V : Stage → Turn (ConsumerState A) → Type 0) (n : Node (ConsumerState A)) (event : Event)
+    → StageSites app (Unsent V) (Unsent V) n event → StagedSites app (Unsent V) n event
+unsent_stages app V n event s = record {
+  asks = λ t to why w. w;
+  says = λ t to what why w. w;
+  sees = λ t from slot count entry comes w. w;
+  ticks = λ t comes w. w;
+  rules = s;
+}

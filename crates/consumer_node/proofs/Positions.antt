@@ -5,7 +5,7 @@ use Rattle.std.specs.List.{AllByRecursion, slice_get, range_with_len}
 use Rattle.std.proofs.lemmas.Bool.Decides.{nat_tests}
 use Rattle.std.proofs.lemmas.List.Elements.{All-take, All-from_recursion, recursion_from_All}
 use Rattle.std.proofs.lemmas.Bool.{cases_Bool, cond-true, cond-false, eq-eqb}
-use Rattle.consumer_node.specs.Names.{Owner, count_of}
+use Rattle.consumer_node.specs.inside.Names.{Owner, count_of}
 use Rattle.fix_ante.specs.Locals.{locals_of}
 use Rattle.cut_core.proofs.Dense.{IsDense, range_with_len-head}
 use Rattle.consumer_node.proofs.Owners.{IsSmall}

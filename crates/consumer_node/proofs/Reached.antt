@@ -1,7 +1,7 @@
 -- The states that an application comes to by valid records, and what it writes in them.
 use Rattle.std.proofs.Common.{◌≡◌, ◌≤◌, List, [], ◌∷◌, ◌++◌, length, refl, sym, ap, ◌∙◌}
 use Rattle.std.specs.List.{AllByRecursion}
-use Rattle.consumer_node.specs.Names.{IsValidRecord, fold_of, Meaning}
+use Rattle.consumer_node.specs.inside.Names.{IsValidRecord, fold_of, Meaning}
 use Rattle.app_law.proofs.Folds.{fold_of-append}
 use Rattle.node_rules.specs.Names.{Record}
 use Rattle.node_rules.proofs.Lists.{all_append}

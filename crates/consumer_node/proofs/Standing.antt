@@ -1,7 +1,7 @@
 -- Items that stand at one position after another.
 use Rattle.std.proofs.Common.{◌≡◌, inl, inr, ℕ, zero, suc, ◌+◌, ◌-◌, ◌<◌, ◌≤◌, List, [], ◌∷◌, ◌++◌, length, take, refl, ap, ◌∙◌, arith}
 use Rattle.std.proofs.lemmas.Bool.{cases_lt, le-ltb, le-leb}
-use Rattle.consumer_node.specs.Names.{below, from_on, IsPast, StandFrom}
+use Rattle.consumer_node.specs.inside.Names.{below, from_on, IsPast, StandFrom}
 use Rattle.app_law.proofs.PositionLemmas.{below-first, from_on-first}
 
 module _ {T : Type 0} (position : T → ℕ) where

@@ -3,8 +3,8 @@ use Rattle.std.proofs.Common.{◌≡◌, ◌+◌, ◌-◌, ◌<◌, List, [], �
 use Rattle.std.specs.List.{fold}
 use Rattle.std.proofs.lemmas.List.Sums.{fold-append}
 use Rattle.std.proofs.lemmas.Option.{slice_get_within}
-use Rattle.consumer_node.specs.Names.{Owner, IsValidRecord, Agreement, IsBelowFirst, effect_of, number_of, Base, Node, agreed_by, IsBase, learned, LaneState}
-use Rattle.consumer_node.specs.Names.{with_record, Meaning, ConsumerState, with_lanes, close, fit, IsOwn, IsConsumer, handle, consumer_step}
+use Rattle.consumer_node.specs.inside.Names.{Owner, IsValidRecord, Agreement, IsBelowFirst, effect_of, number_of, Base, Node, agreed_by, IsBase, learned, LaneState}
+use Rattle.consumer_node.specs.inside.Names.{with_record, Meaning, ConsumerState, with_lanes, close, fit, IsOwn, IsConsumer, handle, consumer_step}
 use Rattle.spec_base.specs.Spelling.{IsValidNode}
 use Rattle.msg_wire.specs.Valid.{IsValidEvent, IsValidItem, IsValidWhat, IsValidMessage, AreValidItems}
 use Rattle.msg_wire.specs.Steps.{AreValidMessages}
@@ -148,26 +148,28 @@ module _ {A : Type 0} (app : Meaning A) where
             let few = (comes_valid n event from (whats.Decided slot count entry) comes valid).1.2 in
             record { base = base_seeing count t.state.base few is.base; own = is.own; given = is.given };
         ticks = λ t _ is. record { base = base_ticking t.state.base is.base; own = is.own; given = is.given };
-        holds = λ t from local rec comes is.
-            other_lanes between_rules between_rules (with_record (own_of t).lanes (number_of from) local rec) t (bare_put (own_of t).lanes (number_of from) local rec)
-            (λ _ own. own_put (agreed t) (own_of t) (number_of from) local rec (comes_valid n event from (whats.Deliver local rec) comes valid).1.1 own) is;
-        learns = kept_learned;
-        notices = λ t shard first is. is;
-        undoes = λ t first past is. other_own (λ _ own. own_cut (λ p. p < first) (agreed t) (own_of t) (first - (own_of t).confirmed) (λ i below. omega (arith, below)) own) is;
-        undoes_none = λ t first none is. other_own (λ _ own. own_uncut (λ p. p < first) (agreed t) (own_of t) (λ i below. omega (arith, below, none)) own) is;
-        moves_none = λ t effect stays is. other_own (λ _ own. own_uncut (IsBelowFirst effect) (agreed t) (own_of t) (λ i below. stays ((own_of t).confirmed + i)) own) is;
-        closes = λ t is.
-            other_lanes undo_done between_rules (fold close (own_of t).lanes (agreed t).gone) t (bare_closed (agreed t).gone (own_of t).lanes)
-            (λ base own. own_closed (agreed t) (own_of t) (agreement_by t.state.base base) own) is;
-        applies = λ t rec held is. other_own (λ _ own. own_apply (agreed t) (own_of t) rec held own) is;
-        leaves_none = λ t none is. is;
-        confirms = kept_confirmed;
-        gives = λ t output some is. is;
-        gives_none = λ t output none is. is;
-        restarts = λ _ is. record {
-          base = base_reset n.base is.base;
-          own = own_reset (agreed_by n.base) n.own is.own;
-          given = record { leads = ap (with_bare n n.own) (sym (bare_without n.own.lanes)); reached = reached_none app n.own.base; stable = λ outputs. tt; sends = tt };
+        rules = record {
+          holds = λ t from local rec comes is.
+              other_lanes between_rules between_rules (with_record (own_of t).lanes (number_of from) local rec) t (bare_put (own_of t).lanes (number_of from) local rec)
+              (λ _ own. own_put (agreed t) (own_of t) (number_of from) local rec (comes_valid n event from (whats.Deliver local rec) comes valid).1.1 own) is;
+          learns = kept_learned;
+          notices = λ t shard first is. is;
+          undoes = λ t first past is. other_own (λ _ own. own_cut (λ p. p < first) (agreed t) (own_of t) (first - (own_of t).confirmed) (λ i below. omega (arith, below)) own) is;
+          undoes_none = λ t first none is. other_own (λ _ own. own_uncut (λ p. p < first) (agreed t) (own_of t) (λ i below. omega (arith, below, none)) own) is;
+          moves_none = λ t effect stays is. other_own (λ _ own. own_uncut (IsBelowFirst effect) (agreed t) (own_of t) (λ i below. stays ((own_of t).confirmed + i)) own) is;
+          closes = λ t is.
+              other_lanes undo_done between_rules (fold close (own_of t).lanes (agreed t).gone) t (bare_closed (agreed t).gone (own_of t).lanes)
+              (λ base own. own_closed (agreed t) (own_of t) (agreement_by t.state.base base) own) is;
+          applies = λ t rec held is. other_own (λ _ own. own_apply (agreed t) (own_of t) rec held own) is;
+          leaves_none = λ t none is. is;
+          confirms = kept_confirmed;
+          gives = λ t output some is. is;
+          gives_none = λ t output none is. is;
+          restarts = λ _ is. record {
+            base = base_reset n.base is.base;
+            own = own_reset (agreed_by n.base) n.own is.own;
+            given = record { leads = ap (with_bare n n.own) (sym (bare_without n.own.lanes)); reached = reached_none app n.own.base; stable = λ outputs. tt; sends = tt };
+          };
         };
       }
 

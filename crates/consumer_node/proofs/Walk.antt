@@ -4,8 +4,8 @@ use Rattle.std.specs.Prelude.{min}
 use Rattle.std.specs.List.{slice_get, range_with_len}
 use Rattle.std.proofs.lemmas.Bool.{eqb-true, eqb-false, ltb-true, ltb-false}
 use Rattle.std.proofs.lemmas.List.{nil_from_length}
-use Rattle.consumer_node.specs.Names.{Owner, Effect, Removed, effect_of, mapped, located, Turn, started, own_of, agreed, count_known, put_own, show, send}
-use Rattle.consumer_node.specs.Names.{Meaning, confirm_first, confirm_count, held_for}
+use Rattle.consumer_node.specs.inside.Names.{Owner, Effect, Removed, effect_of, mapped, located, Turn, started, own_of, agreed, count_known, put_own, show, send}
+use Rattle.consumer_node.specs.inside.Names.{Meaning, confirm_first, confirm_count, held_for}
 use Rattle.msg_wire.specs.Heeded.{is_heeded}
 use Rattle.node_rules.specs.Names.{NodeId, Entry, Event, Record, What}
 use Rattle.node_rules.specs.Names.events
@@ -31,16 +31,16 @@ module _ {A : Type 0} (app : Meaning A) (W : Stage → Turn (ConsumerState A) �
   walk_undo : (first : ℕ) (t : Turn (ConsumerState A)) → W (removal_shown first) t → W undo_done (undo first t)
   walk_undo first t w =
       on_test (W undo_done) (nat_lt first (applied t)) (show (marks.Undo first) (cut_to first t)) t
-      (λ past. sites.undoes t first (ltb-true _ _ past) w) (λ none. sites.undoes_none t first (ltb-false _ _ none) w)
+      (λ past. sites.rules.undoes t first (ltb-true _ _ past) w) (λ none. sites.rules.undoes_none t first (ltb-false _ _ none) w)
 
   walk_notice : (effect : Effect) (t : Turn (ConsumerState A)) → W (entry_known effect) t → W undo_done (notice effect t)
-  walk_notice (Removed shard first) t w = walk_undo first (show (marks.Notice first) t) (sites.notices t shard first w)
-  walk_notice effect t w = sites.moves_none t effect (λ _. tt) w
+  walk_notice (Removed shard first) t w = walk_undo first (show (marks.Notice first) t) (sites.rules.notices t shard first w)
+  walk_notice effect t w = sites.rules.moves_none t effect (λ _. tt) w
 
   walk_learn : (entry : Entry) (t : Turn (ConsumerState A)) → IsTold n event t.state entry → W between_rules t → W between_rules (learn on_learned entry t)
   walk_learn entry t told w =
       let effect = effect_of (agreed t) entry in
-      sites.closes (notice effect (learned entry t)) (walk_notice effect (learned entry t) (sites.learns t entry told w))
+      sites.rules.closes (notice effect (learned entry t)) (walk_notice effect (learned entry t) (sites.rules.learns t entry told w))
 
   -- ---- messages and ticks
 
@@ -64,7 +64,7 @@ module _ {A : Type 0} (app : Meaning A) (W : Stage → Turn (ConsumerState A) �
 
   walk_hear : (from : NodeId) (what : What) (t : Turn (ConsumerState A)) → Comes n event from what → W between_rules t → W between_rules (hear from what t)
   walk_hear from (whats.Decided slot count entry) t comes w = walk_decided from slot count entry t comes w
-  walk_hear from (whats.Deliver local rec) t comes w = sites.holds t from local rec comes w
+  walk_hear from (whats.Deliver local rec) t comes w = sites.rules.holds t from local rec comes w
   walk_hear from _ t comes w = w
 
   walk_fetch : (o : Owner) (position : ℕ) (t : Turn (ConsumerState A)) → event ≡ events.Tick → mapped (agreed t) position ≡ Some o → W between_rules t
@@ -90,19 +90,19 @@ module _ {A : Type 0} (app : Meaning A) (W : Stage → Turn (ConsumerState A) �
 
   walk_applies : (recs : List Record) (t : Turn (ConsumerState A)) (next : Option Record) → to_apply t ≡ recs
       → held_for (agreed t) (own_of t) (applied t) ≡ next → W between_rules t → W all_applied (apply_all t)
-  walk_applies recs t None is none w = subst (W all_applied) (apply-none t none) (sites.leaves_none t none w)
+  walk_applies recs t None is none w = subst (W all_applied) (apply-none t none) (sites.rules.leaves_none t none w)
   walk_applies [] t (Some rec) is held w = let more = to_apply-next t rec held in absurd (cc)
   walk_applies (first ∷ recs) t (Some rec) is held w =
       let more = to_apply-next t rec held in
       let rest : to_apply (apply t rec) ≡ recs = cc in
-      subst (W all_applied) (apply-next t rec held) (walk_applies recs (apply t rec) _ rest refl (sites.applies t rec held w))
+      subst (W all_applied) (apply-next t rec held) (walk_applies recs (apply t rec) _ rest refl (sites.rules.applies t rec held w))
 
   walk_confirm_at : (rec : Record) (o : Owner) (t : Turn (ConsumerState A)) → Confirms t.state rec o → W all_applied t → W all_applied (confirm_at app rec o t)
   walk_confirm_at rec o t why w =
       let output = app.output (own_of t).base rec in
-      let due = sites.confirms t rec o why w in
+      let due = sites.rules.confirms t rec o why w in
       on_test (λ v. W all_applied (put_own (with_confirmed app rec o (own_of t)) v)) (length output == 0) _ _
-      (λ none. sites.gives_none (confirmed_by app rec o t) output (nil_from_length output (eqb-true (length output) 0 none)) due) (λ some. sites.gives (confirmed_by app rec o t) output (omega (arith, eqb-false (length output) 0 some)) due)
+      (λ none. sites.rules.gives_none (confirmed_by app rec o t) output (nil_from_length output (eqb-true (length output) 0 none)) due) (λ some. sites.rules.gives (confirmed_by app rec o t) output (omega (arith, eqb-false (length output) 0 some)) due)
 
   walk_confirm_first : (pending : List Record) (t : Turn (ConsumerState A)) → (own_of t).pending ≡ pending → W all_applied t
       → W all_applied (confirm_first app pending t)
@@ -134,7 +134,7 @@ staged_handle app W n _ sites w = w
 -- and the whole step
 pub staged_walk : {A : Type 0} (app : Meaning A) (W : Stage → Turn (ConsumerState A) → Type 0) (n : Node (ConsumerState A)) (event : Event)
     → StagedSites app W n event → W between_rules (started n) → W all_applied (consumer_step app n event)
-staged_walk app W n events.Restart sites w = sites.restarts refl w
+staged_walk app W n events.Restart sites w = sites.rules.restarts refl w
 staged_walk app W n event sites w = walk_finish app W n event sites _ (staged_handle app W n event sites w)
 
 -- ---- what holds at every place of the table
@@ -157,27 +157,29 @@ module _ {A : Type 0} (app : Meaning A) (W : Turn (ConsumerState A) → Type 0) 
     says = λ t to what why w. (tt, s.says t to what why w.1);
     sees = λ t from slot count entry comes w. (tt, s.sees t from slot count entry comes w.1);
     ticks = λ t comes w. (tt, s.ticks t comes w.1);
-    holds = λ t from local rec comes w. (tt, s.changes t _ (holds_delivered from local rec comes) w.1);
-    learns = λ t entry told w. (record { before = agreed t; entry = entry; learned = record { old = t.state; learns = told; base = refl; agrees = refl }; has = refl }, s.learns t entry told w.1);
-    notices = λ t shard first w. ((shard, w.0), s.shows t (marks.Notice first) (noticed shard first w.0) w.1);
-    undoes = λ t first past w.
-        let shown = s.shows t (marks.Undo first) (undone w.0.0 first w.0.1 past) w.1 in
-        ((Removed w.0.0 first, w.0.1), s.changes (show (marks.Undo first) t) _ (cuts_off w.0.0 first w.0.1 past) shown);
-    undoes_none = λ t first none w. ((Removed w.0.0 first, w.0.1), w.1);
-    moves_none = λ t effect stays w. ((effect, w.0), w.1);
-    closes = λ t w. (tt, s.changes t _ (closes_gone w.0.0 w.0.1) w.1);
-    applies = λ t rec held w.
-        let mark = marks.Apply (applied t) rec in
-        (tt, s.changes (show mark t) _ (applies_held rec held) (s.shows t mark (applied_next rec held) w.1));
-    leaves_none = λ t none w. w;
-    confirms = λ t rec o why w.
-        let mark = marks.Confirm (own_of t).confirmed rec in (
-          record { old = t.state; rec = rec; owner = o; confirms = why; own = refl; gives = refl },
-          s.stores (show mark t) _ _ (confirms_oldest rec o why) (s.shows t mark (confirmed rec o why) w.1),
-        );
-    gives = λ t output some w. (tt, s.shows t (marks.Out output) (written output some w.0) w.1);
-    gives_none = λ t output none w. (tt, w.1);
-    restarts = λ same w. (tt, s.restarts same);
+    rules = record {
+      holds = λ t from local rec comes w. (tt, s.changes t _ (holds_delivered from local rec comes) w.1);
+      learns = λ t entry told w. (record { before = agreed t; entry = entry; learned = record { old = t.state; learns = told; base = refl; agrees = refl }; has = refl }, s.learns t entry told w.1);
+      notices = λ t shard first w. ((shard, w.0), s.shows t (marks.Notice first) (noticed shard first w.0) w.1);
+      undoes = λ t first past w.
+          let shown = s.shows t (marks.Undo first) (undone w.0.0 first w.0.1 past) w.1 in
+          ((Removed w.0.0 first, w.0.1), s.changes (show (marks.Undo first) t) _ (cuts_off w.0.0 first w.0.1 past) shown);
+      undoes_none = λ t first none w. ((Removed w.0.0 first, w.0.1), w.1);
+      moves_none = λ t effect stays w. ((effect, w.0), w.1);
+      closes = λ t w. (tt, s.changes t _ (closes_gone w.0.0 w.0.1) w.1);
+      applies = λ t rec held w.
+          let mark = marks.Apply (applied t) rec in
+          (tt, s.changes (show mark t) _ (applies_held rec held) (s.shows t mark (applied_next rec held) w.1));
+      leaves_none = λ t none w. w;
+      confirms = λ t rec o why w.
+          let mark = marks.Confirm (own_of t).confirmed rec in (
+            record { old = t.state; rec = rec; owner = o; confirms = why; own = refl; gives = refl },
+            s.stores (show mark t) _ _ (confirms_oldest rec o why) (s.shows t mark (confirmed rec o why) w.1),
+          );
+      gives = λ t output some w. (tt, s.shows t (marks.Out output) (written output some w.0) w.1);
+      gives_none = λ t output none w. (tt, w.1);
+      restarts = λ same w. (tt, s.restarts same);
+    };
   }
 
 pub consumer_walk : {A : Type 0} (app : Meaning A) (W : Turn (ConsumerState A) → Type 0) (n : Node (ConsumerState A)) (event : Event)

@@ -1,7 +1,7 @@
 -- A consumer sends to nodes of the cluster alone.
 use Rattle.std.proofs.Common.{◌<◌}
-use Rattle.consumer_node.specs.Names.{Owner, map_of, IsValidConfig, IsNodeOf, NodeId, Config, Event, What, Node, agreed_by, Meaning, ConsumerState}
-use Rattle.consumer_node.specs.Names.{consumer_step}
+use Rattle.consumer_node.specs.inside.Names.{Owner, map_of, IsValidConfig, IsNodeOf, NodeId, Config, Event, What, Node, agreed_by, Meaning, ConsumerState}
+use Rattle.consumer_node.specs.inside.Names.{consumer_step}
 use Rattle.node_rules.proofs.Lists.{all_at}
 use Rattle.node_rules.proofs.Within.{SaysWithin, TakesWithin, IsWithin, StaysWithin, comes_within, staying}
 use Rattle.node_rules.proofs.WithinAgreed.{agreed_within, map_within}

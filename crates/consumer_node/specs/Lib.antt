@@ -1,13 +1,10 @@
 pub mod Apps
 pub mod States
-pub mod Kept
 pub mod Speculation
-pub mod Confirming
 pub mod Sound
 pub mod Rules
-pub mod Closing
 pub mod Steps
 pub mod Restart
 pub mod Laws
 pub mod Worked
-pub mod Names
+pub mod inside

@@ -6,7 +6,7 @@ ghost use Rattle.node_rules.specs.Nodes.{agreed_by, with_own};
 ghost use Rattle.node_rules.specs.Turns.{turn_of};
 ghost use Rattle.consumer_node.specs.States.{with_lanes};
 ghost use Rattle.consumer_node.specs.Rules.{undo, notice, close_all, fetch, fetch_at, fetch_some, on_tick};
-ghost use Rattle.consumer_node.specs.Closing.{close_shard};
+ghost use Rattle.consumer_node.specs.inside.Closing.{close_shard};
 
 use crate::state::Consumer;
 use app_law::App;

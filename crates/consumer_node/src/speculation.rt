@@ -11,7 +11,7 @@ ghost use Rattle.node_rules.specs.Nodes.{agreed_by};
 ghost use Rattle.consumer_node.specs.Apps.{meaning};
 ghost use Rattle.consumer_node.specs.States.{applied_of};
 ghost use Rattle.consumer_node.specs.Sound.{IsConsumer, held_for};
-ghost use Rattle.consumer_node.specs.Confirming.{confirm_oldest};
+ghost use Rattle.consumer_node.specs.inside.Confirming.{confirm_oldest};
 ghost use Rattle.consumer_node.specs.Speculation.{apply, apply_all, show_output, confirm_some, finish};
 
 use crate::state::Consumer;

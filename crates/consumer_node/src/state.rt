@@ -9,8 +9,8 @@ ghost use Rattle.consumer_node.specs.Apps.{meaning};
 ghost use Rattle.consumer_node.specs.States.{fresh_consumer, applied_of, app_state, with_lanes, with_pending, cut_off};
 ghost use Rattle.consumer_node.specs.Restart.{reset_own};
 ghost use Rattle.consumer_node.specs.Speculation.{with_confirmed};
-ghost use Rattle.consumer_node.specs.Kept.{HasRoom};
-ghost use Rattle.consumer_node.specs.Confirming.{ConfirmsOldest, HasOutput};
+ghost use Rattle.consumer_node.specs.inside.Kept.{HasRoom};
+ghost use Rattle.consumer_node.specs.inside.Confirming.{ConfirmsOldest, HasOutput};
 
 use app_law::App;
 use fix_ante::Owner;
@@ -55,7 +55,7 @@ impl<A: App> Model for ConsumerOwn<A> {
     ghost Value = { ConsumerState A };
 
     ghost use Rattle.undo_points.specs.Points.{taken_back};
-    ghost use Rattle.consumer_node.specs.Kept.{IsKept, AreLanes};
+    ghost use Rattle.consumer_node.specs.inside.Kept.{IsKept, AreLanes};
 
     ghost view = { λ o. record { lanes = o.buffer; confirmed = o.confirmed; base = taken_back A.restored o.undos.held o.app; pending = o.pending.items } };
 

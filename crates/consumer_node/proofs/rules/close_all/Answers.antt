@@ -5,7 +5,7 @@ use Rattle.spec_delivery.specs.Lanes.{LaneState}
 use Rattle.node_rules.specs.Nodes.{Node, agreed_by, with_own}
 use Rattle.node_rules.specs.Turns.{turn_of}
 use Rattle.consumer_node.specs.States.{ConsumerState, with_lanes}
-use Rattle.consumer_node.specs.Closing.{close_shard}
+use Rattle.consumer_node.specs.inside.Closing.{close_shard}
 use Rattle.consumer_node.proofs.Closings.{close-shards}
 use Rattle.consumer_node.proofs.Loops.{fold-next}
 use Rattle.consumer_node.proofs.Owners.{agreement_by}

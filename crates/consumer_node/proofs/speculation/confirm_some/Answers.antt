@@ -3,7 +3,7 @@ use Rattle.std.specs.Prelude.{min}
 use Rattle.node_rules.specs.Nodes.{agreed_by}
 use Rattle.node_rules.specs.Turns.{turn_of}
 use Rattle.consumer_node.specs.Apps.{meaning}
-use Rattle.consumer_node.specs.Confirming.{confirm_count}
+use Rattle.consumer_node.specs.inside.Confirming.{confirm_count}
 use Rattle.consumer_node.proofs.Loops.{confirm-counted}
 use Rattle.consumer_node.proofs.speculation.confirm_some.Goals as goal
 

@@ -3,7 +3,7 @@ use Rattle.msg_wire.specs.Valid.{AreValidItems}
 use Rattle.node_rules.specs.Turns.{turn_of}
 use Rattle.consumer_node.specs.Apps.{meaning}
 use Rattle.consumer_node.specs.Sound.{IsConsumer}
-use Rattle.consumer_node.specs.Confirming.{confirm_count}
+use Rattle.consumer_node.specs.inside.Confirming.{confirm_count}
 use Rattle.consumer_node.proofs.speculation.confirm_some.Given as goal
 
 abbrev pub invariant-loop-nth : goal.invariant-loop-nth

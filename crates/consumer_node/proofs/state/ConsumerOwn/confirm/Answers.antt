@@ -2,7 +2,7 @@ use Rattle.std.proofs.Common.{◌+◌, List, length, refl, ap, sym, subst, ◌�
 use Rattle.output_gate.specs.declared.kept.KeptOut.{KeptOut}
 use Rattle.consumer_node.specs.Apps.{meaning}
 use Rattle.consumer_node.specs.Speculation.{with_confirmed}
-use Rattle.consumer_node.specs.Confirming.{HasOutput}
+use Rattle.consumer_node.specs.inside.Confirming.{HasOutput}
 use Rattle.consumer_node.proofs.Keeping.{has-confirmed, has-released, state-made}
 use Rattle.consumer_node.proofs.Floors.{lanes-raise}
 use Rattle.consumer_node.proofs.state.ConsumerOwn.confirm.Goals as goal

@@ -22,8 +22,8 @@ pub use Rattle.node_rules.specs.Rules.{learned}
 pub use Rattle.node_rules.specs.Sound.{IsBase}
 pub use Rattle.node_rules.specs.Turns.{Turn, agreed, count_known, own_of, put_own, send, show, started}
 pub use Rattle.consumer_node.specs.Apps.{Meaning}
-pub use Rattle.consumer_node.specs.Confirming.{confirm_count, confirm_first}
-pub use Rattle.consumer_node.specs.Kept.{StandFrom}
+pub use Rattle.consumer_node.specs.inside.Confirming.{confirm_count, confirm_first}
+pub use Rattle.consumer_node.specs.inside.Kept.{StandFrom}
 pub use Rattle.consumer_node.specs.Restart.{closed_by, fit, fresh_node, reset_of}
 pub use Rattle.consumer_node.specs.Rules.{close, close_gone}
 pub use Rattle.consumer_node.specs.Sound.{IsConsumer, IsLane, IsOwn, held_for}

@@ -1,0 +1,5 @@
+-- What only the contracts of this crate's private functions, its invariants and its proofs cite.
+pub mod Kept
+pub mod Confirming
+pub mod Closing
+pub mod Names
