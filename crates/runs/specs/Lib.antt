@@ -24,3 +24,4 @@ pub mod Broken
 pub mod BrokenPasses
 pub mod FirstSteps
 pub mod WorkedRuns
+pub mod Laws

@@ -1,11 +1,7 @@
 //! What is shown of the definitions of runs and laws by themselves. The laws of all runs stand in the crates `safety_..` above.
-ghost use Rattle.runs.specs.Names.{Config};
-ghost use Rattle.runs.specs.Journals.{MergesAreRuns};
-ghost use Rattle.runs.specs.FirstSteps.{FirstSteps};
-ghost use Rattle.runs.specs.WorkedRuns.{PremisesAreMet};
+ghost use Rattle.runs.specs.Laws.{Config, MergesAreRuns, FirstSteps, PremisesAreMet, UnnoticedFollows};
 ghost use Rattle.runs.specs.Broken.{Refused};
 ghost use Rattle.runs.specs.BrokenPasses.{RefusedPasses};
-ghost use Rattle.runs.specs.Speculating.{UnnoticedFollows};
 
 /// The first steps of a script, worked out by hand, are a run.
 pub fn first_steps_are_a_run()
