@@ -5,6 +5,8 @@ use Rattle.msg_wire.specs.Valid.{IsValidConfig}
 use Rattle.net_model.specs.Pasts.{Past, marks_of}
 use Rattle.node_rules.specs.Nodes.{Node}
 use Rattle.node_rules.proofs.Lists.{all_push}
+use Rattle.node_rules.specs.Turns.{Turn}
+use Rattle.node_rules.proofs.Places.{unsent_sites}
 use Rattle.runs.specs.Names.{NodeId, Config, Entry, Item, Mark, Event, HistoryEntry}
 use Rattle.runs.specs.Names.events
 use Rattle.runs.specs.Runs.{IsPastOf}
@@ -25,20 +27,17 @@ use Rattle.safety_frame.proofs.Gathered.{gathers_stored, item_stored, stored_the
 -- what holds of the marks of a restart, and of a mark at each place that shows one, holds of all marks of a step
 pub each_shown : {S : Type 0} (k : Kind S) (P : Mark → Type 0) (n : Node S) (event : Event) → (event ≡ events.Restart → AllByRecursion P (k.places.shown n))
     → ((s : Node S) (mark : Mark) → k.places.Shows n event s mark → P mark) → AllByRecursion P (k.step n event).marks
-each_shown k P n event restarted shown =
-    k.walk (λ t. AllByRecursion P t.marks) n event
+each_shown {S} k P n event restarted shown =
+    k.walk _ n event
+    (unsent_sites (λ (t : Turn S). AllByRecursion P t.marks)
     (record {
       starts = tt;
       restarts = restarted;
       learns = λ t entry why w. w;
-      sees = λ t from slot count entry why w. w;
-      ticks = λ t why w. w;
-      asks = λ t to why w. w;
-      says = λ t to what why w. w;
       shows = λ t mark why w. all_push P t.marks mark w (shown t.state mark why);
       stores = λ t item own why w. w;
       changes = λ t own why w. w;
-    })
+    }))
 
 module _ (cfg : Config) (valid : IsValidConfig cfg) where
   -- ---- items

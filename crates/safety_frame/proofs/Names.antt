@@ -6,6 +6,8 @@ use Rattle.net_model.specs.Pasts.{Past}
 use Rattle.node_rules.specs.Names.{Message}
 use Rattle.node_rules.specs.Nodes.{Node}
 use Rattle.node_rules.proofs.Telling.{telling}
+use Rattle.node_rules.specs.Turns.{Turn}
+use Rattle.node_rules.proofs.Places.{unshown_sites}
 use Rattle.runs.specs.Names.{NodeId, Config, Event}
 use Rattle.runs.specs.Runs.{IsPastOf}
 use Rattle.safety_frame.proofs.NodeKinds.{Kind, after}
@@ -17,19 +19,15 @@ IsNamed cfg node n = (n.base.cfg ≡ cfg) × (n.base.me ≡ node)
 module _ {S : Type 0} (k : Kind S) where
   pub step_named : (n : Node S) (event : Event) → IsNamed n.base.cfg n.base.me (k.step n event).state
   step_named n event =
-      k.walk (λ t. IsNamed n.base.cfg n.base.me t.state) n event
+      k.walk _ n event
+      (unshown_sites (λ (t : Turn S). IsNamed n.base.cfg n.base.me t.state)
       (record {
         starts = (refl, refl);
         restarts = λ e. (ap (λ b. b.cfg) (k.resets n), ap (λ b. b.me) (k.resets n));
         learns = λ t entry why is. is;
-        sees = λ t from slot count entry why is. is;
-        ticks = λ t why is. is;
-        asks = λ t to why is. is;
-        says = λ t to what why is. is;
-        shows = λ t mark why is. is;
         stores = λ t item own why is. is;
         changes = λ t own why is. is;
-      })
+      }))
 
   pub states_named : (cfg : Config) (valid : IsValidConfig cfg) (past : Past) → IsPastOf cfg past
       → OfStates k cfg valid (λ past node n. IsNamed cfg node n) past
