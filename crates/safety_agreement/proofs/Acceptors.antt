@@ -10,6 +10,7 @@ use Rattle.node_rules.specs.Names.{Event}
 use Rattle.node_rules.specs.Nodes.{Node}
 use Rattle.node_rules.specs.Turns.{Turn}
 use Rattle.node_rules.proofs.Limits.{seqs_within}
+use Rattle.node_rules.proofs.Places.{unshown_sites}
 use Rattle.seq_node.specs.States.{SequencerState, acceptor_at, standing_ballot}
 use Rattle.seq_node.proofs.Places.{Begins, Stores, promised, accepted, begins_at_once, begins, sends}
 use Rattle.seq_node.proofs.Ballots.{open_ballot}
@@ -83,7 +84,8 @@ module _ (cfg : Config) (valid : IsValidConfig cfg) (slot : ℕ) where
   step_holds n event earlier same has =
       let parts = acceptors_by_items slot in
       let start = subst (λ (l : List Item). HasLast slot l (acceptor_at n.own slot)) (sym (append-nil earlier)) has in
-      (sequencers.walk (Holds earlier) n event
+      (sequencers.walk _ n event
+      (unshown_sites (Holds earlier)
       (record {
         starts = (same, start);
         restarts = λ e. (same, kept (earlier ++ []) _ _ (parts.resets n) start);
@@ -92,18 +94,13 @@ module _ (cfg : Config) (valid : IsValidConfig cfg) (slot : ℕ) where
           grown earlier t.stable (items.Known entry) (acceptor_at t.state.own slot) _ (parts.learns t.state entry)
               (apart_pushed slot (earlier ++ t.stable) (items.Known entry) (acceptor_at t.state.own slot) (known_apart entry) w.1),
         );
-        sees = λ t from at count entry why w. w;
-        ticks = λ t why w. w;
-        asks = λ t to why w. w;
-        says = λ t to what why w. w;
-        shows = λ t mark why w. w;
         stores = λ t item own why w. (
           w.0,
           grown earlier t.stable item (acceptor_at t.state.own slot) _ (parts.stores n event t.state item own why)
               (goes_in n event t.state item own (earlier ++ t.stable) why w.0 w.1),
         );
         changes = λ t own why w. (w.0, kept (earlier ++ t.stable) _ _ (parts.changes n event t.state own why) w.1);
-      })).1
+      }))).1
 
   runs_hold : (past : Past) → IsPastOf cfg past
       → OfStates sequencers cfg valid (λ past node n. HasLast slot (stored sequencers cfg node past) (acceptor_at n.own slot)) past

@@ -11,6 +11,7 @@ use Rattle.majority.specs.Agreement.{IsSound, IsAttemptIfAny, bars_of}
 use Rattle.majority.proofs.Entries.{with_entry-cases, with_entry-other}
 use Rattle.majority.proofs.Lists.{Contains-here}
 use Rattle.majority.proofs.Steps.{with_entry-here, IsSound-same}
+use Rattle.majority.proofs.Promises.{IsAttempt-stands}
 use Rattle.majority.proofs.Starts.{IsSound-attempt}
 use Rattle.runs.specs.Names.{Entry}
 use Rattle.safety_agreement.proofs.Mirrors.{changed}
@@ -72,15 +73,8 @@ module _ (n i : ℕ) (state : SlotState Entry) (within : i < n) (sound : IsSound
   unreported : IsAttemptIfAny n sending.votes (bars_of sending.acceptors i) sending.sent i (Some (with_sending v (with_heard i None a)))
   unreported =
       let is = stands_there n i sending within sending_sound reported (with_entry-here i (Some reported) reporting.attempts) in
-      record {
-        here = is.here;
-        count = is.count;
-        owned = is.owned;
-        barred = is.barred;
-        within = is.within;
-        distinct = is.distinct;
-        stands = record { own = is.stands.own; within = is.stands.within; distinct = is.stands.distinct; voted = is.stands.voted };
-      }
+      IsAttempt-stands n i sending.votes (bars_of sending.acceptors i) sending.sent reported (with_heard i None a).reported (Some v) reported.acceptances is
+      (record { own = is.stands.own; within = is.stands.within; distinct = is.stands.distinct; voted = is.stands.voted })
 
   pub alone_sound : IsSound n (changed i (with_vote a.ballot v (state.acceptors i)) (Some (with_sending v (with_heard i None a)))
       (vote_of i a.ballot v ∷ state.votes)

@@ -12,6 +12,7 @@ use Rattle.net_model.specs.Pasts.{Past, sent}
 use Rattle.node_rules.specs.Names.{Event}
 use Rattle.node_rules.specs.Nodes.{Node, agreed_by}
 use Rattle.node_rules.specs.Turns.{Turn}
+use Rattle.node_rules.proofs.Places.{unshown_sites}
 use Rattle.seq_node.specs.States.{SlotAttempt, SequencerState, with_idle}
 use Rattle.seq_node.proofs.Places.{Promising, promise_comes, promise_alone, Stores, promised, accepted, begins_at_once, begins, sends, is_late, is_lower, is_waiting, Changes, waits, hears, reports, wishes, idles}
 use Rattle.runs.specs.Names.{NodeId, Config, Entry, Item, Message}
@@ -97,19 +98,15 @@ module _ (cfg : Config) (me : NodeId) (here : number_of me < cfg.seqs) (past : P
 
   step_has : IsNamed cfg me n → Has n.own.attempt → Has (sequencers.step n event).state.own.attempt
   step_has named has =
-      (sequencers.walk (λ (t : Turn SequencerState). IsNamed cfg me t.state × Has t.state.own.attempt) n event
+      (sequencers.walk _ n event
+      (unshown_sites (λ (t : Turn SequencerState). IsNamed cfg me t.state × Has t.state.own.attempt)
       (record {
         starts = (named, has);
         restarts = λ e. (named, tt);
         learns = λ t entry why w. (w.0, learns_has t.state entry w.1);
-        sees = λ t from at count entry why w. w;
-        ticks = λ t why w. w;
-        asks = λ t to why w. w;
-        says = λ t to what why w. w;
-        shows = λ t mark why w. absurd why;
         stores = λ t item own why w. (w.0, stores_has t.state item own why w.0 w.1);
         changes = λ t own why w. (w.0, changes_has t.state own why w.0 w.1);
-      })).1
+      }))).1
 
 -- ---- runs
 

@@ -13,10 +13,9 @@ use Rattle.majority.proofs.Entries.{Contains-elim}
 use Rattle.majority.proofs.Growth.{Grows, IsAttemptIfAny-kept}
 use Rattle.majority.proofs.Lists.{Contains-later}
 use Rattle.majority.proofs.Chosen.{OneValuePerBallot}
-use Rattle.majority.proofs.Members.{IsDistinct-with_replica, All-with_replica, Contains-with_replica}
 use Rattle.majority.proofs.Steps.{with_entry-kept, IsSound-same, IsSound-prepare, IsSound-accept}
 use Rattle.majority.proofs.Starts.{IsSound-attempt, IsSound-start}
-use Rattle.majority.proofs.Promises.{IsSound-promise}
+use Rattle.majority.proofs.Promises.{IsSound-promise, IsAttempt-counted}
 use Rattle.runs.specs.Names.{Entry}
 use Rattle.safety_agreement.proofs.Mirrors.{changed}
 
@@ -148,27 +147,8 @@ module _ (n i : ℕ) (state : SlotState Entry) (within : i < n) (sound : IsSound
       → HasVote state.votes from a.ballot v
       → IsSound n (changed i (state.acceptors i) (Some (with_acceptance from a)) state.votes state.sent state)
   count_sound from a v stood sending below vote =
-      let is = stands_there a stood in
-      let before : AttemptsAreVoted state.votes n a v = subst (λ s. AttemptStands state.votes state.sent n a s) sending is.stands in
-      let after : AttemptsAreVoted state.votes n (with_acceptance from a) v = record {
-        own = before.own;
-        within = All-with_replica (λ k. k < n) from a.acceptances before.within below;
-        distinct = IsDistinct-with_replica from a.acceptances before.distinct;
-        voted = λ j among. elim (Contains-with_replica from j a.acceptances among) [
-          | inl old ↦ before.voted j old
-          | inr new ↦ subst (λ k. HasVote state.votes k a.ballot v) new vote
-        ];
-      } in
       attempt_sound (Some (with_acceptance from a))
-      (record {
-        here = is.here;
-        count = is.count;
-        owned = is.owned;
-        barred = is.barred;
-        within = is.within;
-        distinct = is.distinct;
-        stands = subst (λ s. AttemptStands state.votes state.sent n (with_acceptance from a) s) (sym sending) after;
-      })
+      (IsAttempt-counted n i from a v state.votes (bars_of state.acceptors i) state.sent below vote (stands_there a stood) sending)
 
   -- a message Accepted is a vote of the value that is being sent
   pub told_vote : (from : ℕ) (a : Attempt Entry) (v : Entry) → state.attempts i ≡ Some a → a.sending ≡ Some v

@@ -8,7 +8,8 @@ use Rattle.msg_wire.specs.Heeded.{goes_between}
 use Rattle.msg_wire.specs.Nodes.{number_of, is_sequencer, is_replica, is_client, is_consumer, same_node}
 use Rattle.node_rules.specs.Names.{Event}
 use Rattle.node_rules.specs.Nodes.{Node}
-use Rattle.node_rules.proofs.Places.{Comes, IsTold}
+use Rattle.node_rules.specs.Turns.{Turn}
+use Rattle.node_rules.proofs.Places.{Comes, IsTold, unshown_sites}
 use Rattle.runs.specs.Names.{NodeId, Entry, What}
 use Rattle.runs.specs.Names.nodes
 use Rattle.runs.specs.Names.whats
@@ -57,8 +58,9 @@ pub told_stays : {S : Type 0} (k : Kind S) (n : Node S) (event : Event) (slot : 
     → ((from : NodeId) (at count : ℕ) (entry : Entry) → Comes n event from (whats.Decided at count entry) → at ≡ slot → C entry)
     → ((entry : Entry) → slice_get n.base.known slot ≡ Some entry → C entry)
     → (entry : Entry) → slice_get (k.step n event).state.base.known slot ≡ Some entry → C entry
-told_stays k n event slot C is_told decided known =
-    k.walk (λ t. (entry : Entry) → slice_get t.state.base.known slot ≡ Some entry → C entry) n event
+told_stays {S} k n event slot C is_told decided known =
+    k.walk _ n event
+    (unshown_sites (λ (t : Turn S). (entry : Entry) → slice_get t.state.base.known slot ≡ Some entry → C entry)
     (record {
       starts = known;
       restarts = λ e entry at. known entry (sym (ap (λ b. slice_get b.known slot) (k.resets n)) ∙ at);
@@ -68,11 +70,6 @@ told_stays k n event slot C is_told decided known =
             let is = is_told t.state entry why in
             subst C last.1 (decided is.from (length t.state.base.known) is.count entry is.comes last.0)
       ];
-      sees = λ t from at count entry why w. w;
-      ticks = λ t why w. w;
-      asks = λ t to why w. w;
-      says = λ t to what why w. w;
-      shows = λ t mark why w. w;
       stores = λ t item own why w. w;
       changes = λ t own why w. w;
-    })
+    }))

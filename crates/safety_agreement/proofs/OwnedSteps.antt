@@ -12,7 +12,7 @@ use Rattle.msg_wire.specs.Valid.{IsNodeOf}
 use Rattle.node_rules.specs.Nodes.{Node, agreed_by}
 use Rattle.node_rules.specs.Turns.{Turn}
 use Rattle.node_rules.proofs.Lists.{on_test, all_push}
-use Rattle.node_rules.proofs.Places.{Comes, SitesAfter}
+use Rattle.node_rules.proofs.Places.{Comes, SitesAfter, unshown_sites}
 use Rattle.seq_node.specs.States.{SlotAttempt, SequencerState, standing_ballot, acceptor_at, with_idle}
 use Rattle.seq_node.proofs.Places.{Begins, Says, tells, announces, promises, accepts, prepares, proposes, fills, Stores, promised, accepted, begins_at_once, begins, sends, is_late, is_lower, is_waiting, Changes, waits, hears, reports, wishes, idles}
 use Rattle.runs.specs.Names.{NodeId, Config, Entry, Item, Message, What, Event}
@@ -85,18 +85,15 @@ module _ (cfg : Config) (me : NodeId) (here : number_of me < cfg.seqs) where
     Owned t = IsNamed cfg me t.state × MayOwn cfg me t.state.own.attempt
 
     pub owned_sites : IsNamed cfg me n → MayOwn cfg me n.own.attempt → SitesAfter sequencers.places sequencers.learns Owned n event
-    owned_sites named owned = record {
-      starts = (named, owned);
-      restarts = λ e. (named, tt);
-      learns = λ t entry why w. (w.0, learns_owned t.state entry w.1);
-      sees = λ t from at count entry why w. w;
-      ticks = λ t why w. w;
-      asks = λ t to why w. w;
-      says = λ t to what why w. w;
-      shows = λ t mark why w. w;
-      stores = λ t item own why w. (w.0, stores_owned t.state item own why w.0 w.1);
-      changes = λ t own why w. (w.0, changes_owned t.state own why w.1);
-    }
+    owned_sites named owned =
+        unshown_sites Owned
+        (record {
+          starts = (named, owned);
+          restarts = λ e. (named, tt);
+          learns = λ t entry why w. (w.0, learns_owned t.state entry w.1);
+          stores = λ t item own why w. (w.0, stores_owned t.state item own why w.0 w.1);
+          changes = λ t own why w. (w.0, changes_owned t.state own why w.1);
+        })
 
     -- ---- what is sent: the asking owner is told by what comes
 

@@ -1,5 +1,5 @@
 -- A whole step of a sequencer, as the machine of one slot follows it; and that the slot's entry, once it is known, is chosen by the votes.
-use Rattle.std.proofs.Common.{◌≡◌, ◌∙◌, ℕ, List, [], ◌∷◌, ◌++◌, length, Some, inl, inr, sym, ap, subst, append_assoc, append-nil}
+use Rattle.std.proofs.Common.{◌≡◌, ◌∙◌, ℕ, List, [], ◌∷◌, ◌++◌, length, Some, inl, inr, refl, sym, ap, subst, append_assoc, append-nil}
 use Rattle.std.specs.List.{slice_get}
 use Rattle.majority.specs.Votes.{IsChosenByVotes}
 use Rattle.majority.specs.Slot.{SlotState}
@@ -7,9 +7,10 @@ use Rattle.majority.proofs.Decided.{IsChosen-counted}
 use Rattle.majority.proofs.Majorities.{most_from_test}
 use Rattle.msg_wire.specs.Nodes.{number_of}
 use Rattle.node_rules.specs.Names.{Event, Message}
-use Rattle.node_rules.specs.Nodes.{Node, with_own}
-use Rattle.node_rules.proofs.Telling.{with_entry}
+use Rattle.node_rules.specs.Nodes.{Base, Node, with_own}
+use Rattle.node_rules.proofs.Telling.{with_base, with_entry}
 use Rattle.node_rules.specs.Turns.{Turn}
+use Rattle.node_rules.specs.Rules.{with_seen, with_tick}
 use Rattle.node_rules.proofs.Lists.{all_push, all_weaken}
 use Rattle.node_rules.proofs.Places.{Comes, SitesAfter}
 use Rattle.node_rules.proofs.Kept.{keeping_node}
@@ -23,7 +24,7 @@ use Rattle.safety_frame.proofs.Names.{IsNamed}
 use Rattle.safety_frame.proofs.NodeKinds.{sequencers}
 use Rattle.safety_agreement.proofs.Mirrors.{attempt_at, at_slot, IsSaid, said_still, Mirrors, moves_none, moves_on}
 use Rattle.safety_agreement.proofs.Machine.{stands_there}
-use Rattle.safety_agreement.proofs.Changing.{Follows, with_item}
+use Rattle.safety_agreement.proofs.Changing.{Follows, nothing_follows, with_item}
 use Rattle.safety_agreement.proofs.Storing.{stores_follow}
 use Rattle.safety_agreement.proofs.Counting.{changes_follow, learns_follow, reset_follows}
 use Rattle.safety_agreement.proofs.Saying.{says_follow}
@@ -57,6 +58,14 @@ module _ (cfg : Config) (slot : ℕ) (me : NodeId) (start : SlotState Entry) (ea
     is = is;
     known = λ entry at. chosen_on cfg.seqs i w.state f.next entry f.moves (known entry at);
   }
+
+  -- the node's own part stays, and the machine where it is
+  stands_still : (t : Turn SequencerState) (w : Mid t) (base : Base) → IsOrderlyAs Named (with_base base t.state) → IsNamed cfg me (with_base base t.state)
+      → ((entry : Entry) → slice_get base.known slot ≡ Some entry → IsChosenByVotes cfg.seqs w.state.votes entry)
+      → Mid (record t { state = with_base base t.state })
+  stands_still t w base is named known =
+      goes_on t w (with_base base t.state) t.stable
+      (nothing_follows cfg.seqs slot i w.state t.state.own (earlier ++ t.stable) given.within w.sound w.mirrors t.state.own refl refl) named is known
 
   -- one item more
   with_one : (t : Turn SequencerState) (state : SlotState Entry) (own : SequencerState) (item : Item)
@@ -112,26 +121,8 @@ module _ (cfg : Config) (slot : ℕ) (me : NodeId) (start : SlotState Entry) (ea
             (with_item cfg.seqs slot i w.state (over t.state entry) (earlier ++ t.stable) (items.Known entry) (λ b v e. cc)
             (learns_follow cfg slot me given.within n event t.state w.state (earlier ++ t.stable) w.sound w.mirrors w.named (told_now t w) entry)))
             w.named (keep.learns t entry why w.is) (learns_mid t w entry why);
-        sees = λ t from at count entry why w. record {
-          state = w.state;
-          sound = w.sound;
-          moves = w.moves;
-          mirrors = w.mirrors;
-          said = w.said;
-          named = w.named;
-          is = keep.sees t from at count entry why w.is;
-          known = w.known;
-        };
-        ticks = λ t why w. record {
-          state = w.state;
-          sound = w.sound;
-          moves = w.moves;
-          mirrors = w.mirrors;
-          said = w.said;
-          named = w.named;
-          is = keep.ticks t why w.is;
-          known = w.known;
-        };
+        sees = λ t from at count entry why w. stands_still t w (with_seen count t).state.base (keep.sees t from at count entry why w.is) w.named w.known;
+        ticks = λ t why w. stands_still t w (with_tick t).state.base (keep.ticks t why w.is) w.named w.known;
         asks = λ t to why w. record {
           state = w.state;
           sound = w.sound;

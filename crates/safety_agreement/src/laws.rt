@@ -1,6 +1,6 @@
 //! What holds of every run of a valid cluster: how its sequencers agree, one slot after the other.
 ghost use Rattle.runs.specs.Agreement.{OneValuePerBallot};
-ghost use Rattle.runs.specs.Chosen.{OneIsChosen, KnownIsChosen};
+ghost use Rattle.runs.specs.Laws.{OneIsChosen, KnownIsChosen};
 ghost use Rattle.safety_frame.specs.EveryRun.{OfEveryRun};
 ghost use Rattle.safety_agreement.specs.Acceptors.{AcceptorIsItems};
 ghost use Rattle.safety_agreement.specs.Owners.{BallotsHaveOwners};
