@@ -6,7 +6,8 @@ use Rattle.msg_wire.specs.Nodes.{is_primary, is_backup, is_client, is_sequencer,
 use Rattle.msg_wire.specs.Valid.{IsValidConfig, IsNodeOf}
 use Rattle.net_model.specs.Pasts.{Past}
 use Rattle.node_rules.specs.Nodes.{Node}
-use Rattle.node_rules.proofs.Places.{Comes}
+use Rattle.node_rules.specs.Turns.{Turn}
+use Rattle.node_rules.proofs.Places.{Comes, unshown_sites}
 use Rattle.shard_node.specs.States.{ReplicaState}
 use Rattle.shard_node.proofs.Places.{Stores, appends, copied, fills, Changes, holds, covers, cuts, promises_on}
 use Rattle.runs.specs.Names.{NodeId, Config, Record, Item, Event, HistoryEntry}
@@ -55,19 +56,15 @@ module _ (n : Node ReplicaState) (event : Event) (whole : List Record) where
 
   step_within : is_primary n.base.me ≡ false → Copies → IsPrefix n.own.log whole → IsPrefix (replicas.step n event).state.own.log whole
   step_within backup copies start =
-      replicas.walk (λ t. IsPrefix t.state.own.log whole) n event
+      replicas.walk _ n event
+      (unshown_sites (λ (t : Turn ReplicaState). IsPrefix t.state.own.log whole)
       (record {
         starts = start;
         restarts = λ e. start;
         learns = λ t entry why w. w;
-        sees = λ t from slot count entry why w. w;
-        ticks = λ t why w. w;
-        asks = λ t to why w. w;
-        says = λ t to what why w. w;
-        shows = λ t mark why w. w;
         stores = λ t item own why w. stored_within backup copies t.state item own why w;
         changes = λ t own why w. changed_within t.state own why w;
-      })
+      }))
 
 -- ---- what comes to a backup
 

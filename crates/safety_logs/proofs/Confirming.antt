@@ -19,7 +19,7 @@ use Rattle.node_rules.specs.Nodes.{Node, agreed_by, has_slot, knowing}
 use Rattle.node_rules.specs.Turns.{Turn, started, me_of, own_of, agreed, count_known, put_own, show}
 use Rattle.node_rules.specs.Rules.{learned, learn, learn_next, with_seen, ask, decided}
 use Rattle.node_rules.proofs.Lists.{on_test, on_fold}
-use Rattle.node_rules.proofs.Places.{Comes, IsTold}
+use Rattle.node_rules.proofs.Places.{Comes, IsTold, unsent_sites}
 use Rattle.shard_node.specs.States.{ReplicaState, shard_of, log_of, covered_of, with_promised}
 use Rattle.shard_node.specs.Learning.{tell_client, confirm_at, confirm, confirm_from, covered_is_durable, notice, on_learned}
 use Rattle.shard_node.specs.Promises.{lease_at, to_promise, promise_record, promise, promise_some, promise_all}
@@ -176,15 +176,12 @@ module _ (before : List (ℕ × Record)) where
 
     step_untold : Confirmed (started n) → Confirmed (replica_step n event)
     step_untold start =
-        replica_walk Confirmed n event
+        replica_walk _ n event
+        (unsent_sites Confirmed
         (record {
           starts = start;
           restarts = λ e. start;
           learns = λ t entry why w. absurd (none t.state entry why);
-          sees = λ t from slot count entry why w. w;
-          ticks = λ t why w. w;
-          asks = λ t to why w. w;
-          says = λ t to what why w. w;
           shows = λ t mark why w. shown_silent (covered_of t) mark t (shows_silent t.state mark why) w;
           stores = λ t item own why w.
               to_longer (agreed t) (shard_of t) (covered_of t) (log_of t) own.log (before ++ confirmations t.marks)
@@ -192,7 +189,7 @@ module _ (before : List (ℕ × Record)) where
           changes = λ t own why w.
               subst (λ (l : List Record). ConfirmsTo (agreed t) (shard_of t) (covered_of t) l (before ++ confirmations t.marks))
               (sym (log_by_items.changes n event t.state own why)) w;
-        })
+        }))
 
   -- ---- any step
 

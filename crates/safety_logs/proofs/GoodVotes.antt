@@ -9,6 +9,7 @@ use Rattle.net_model.specs.Pasts.{Past}
 use Rattle.node_rules.specs.Nodes.{Node, agreed_by}
 use Rattle.node_rules.specs.Turns.{Turn}
 use Rattle.node_rules.proofs.Lists.{all_push}
+use Rattle.node_rules.proofs.Places.{unshown_sites}
 use Rattle.seq_node.specs.States.{SlotAttempt, SequencerState, acceptor_at, with_idle}
 use Rattle.seq_node.proofs.Places.{Promising, promise_comes, promise_alone, Begins, Stores, promised, accepted, begins_at_once, begins, sends, is_late, is_lower, is_waiting, Changes, waits, hears, reports, wishes, idles}
 use Rattle.runs.specs.Names.{NodeId, Config, Entry, Item, HistoryEntry}
@@ -139,7 +140,8 @@ module _ (cfg : Config) (valid : IsValidConfig cfg) (e : HistoryEntry) (past : P
   step_good named keeps attempt acceptors begins_agreed =
       let told = reports_told cfg valid e past run n in
       let parts = acceptors_by_items in
-      ((sequencers.walk Holds n e.event
+      ((sequencers.walk _ n e.event
+      (unshown_sites Holds
       (record {
         starts = (named, keeps, λ _. ((attempt, acceptors), tt));
         restarts = λ why. (
@@ -164,11 +166,6 @@ module _ (cfg : Config) (valid : IsValidConfig cfg) (e : HistoryEntry) (past : P
                 all_push (IsGoodItem cfg now) t.stable (items.Known entry) all.1 tt,
               ),
         );
-        sees = λ t from slot count entry why w. w;
-        ticks = λ t why w. w;
-        asks = λ t to why w. w;
-        says = λ t to what why w. w;
-        shows = λ t mark why w. absurd why;
         stores = λ t item own why w. (
           w.0,
           stores_kept (primaries_in cfg valid past) (backups_in cfg valid past) n e.event told t.state item own why w.1,
@@ -198,4 +195,4 @@ module _ (cfg : Config) (valid : IsValidConfig cfg) (e : HistoryEntry) (past : P
                 all.1,
               ),
         );
-      })).2 begins_agreed).1
+      }))).2 begins_agreed).1

@@ -22,7 +22,7 @@ use Rattle.node_rules.specs.Sound.{IsBase}
 use Rattle.node_rules.proofs.Kept.{told_valid}
 use Rattle.node_rules.proofs.Limits.{base_knowing}
 use Rattle.node_rules.proofs.Lists.{on_test, on_fold}
-use Rattle.node_rules.proofs.Places.{Comes, IsTold}
+use Rattle.node_rules.proofs.Places.{Comes, IsTold, unshown_sites}
 use Rattle.shard_node.specs.States.{ReplicaState, shard_of, log_of, with_promised}
 use Rattle.shard_node.specs.Learning.{confirm_from, covered_is_durable, notice, on_learned}
 use Rattle.shard_node.specs.Promises.{lease_at, to_promise, promise_record, promise, promise_some, promise_all}
@@ -146,19 +146,15 @@ module _ (n : Node ReplicaState) (event : Event) (none : (s : Node ReplicaState)
 
   step_untold : Leased n → Leased (replica_step n event).state
   step_untold start =
-      replica_walk OfTurn n event
+      replica_walk _ n event
+      (unshown_sites OfTurn
       (record {
         starts = start;
         restarts = λ e. (covered_leased (agreed_by n.base) (number_of n.base.me), start.1);
         learns = λ t entry why w. absurd (none t.state entry why);
-        sees = λ t from slot count entry why w. w;
-        ticks = λ t why w. w;
-        asks = λ t to why w. w;
-        says = λ t to what why w. w;
-        shows = λ t mark why w. w;
         stores = λ t item own why w. stored t.state item own why w;
         changes = λ t own why w. changed t.state own why w;
-      })
+      }))
 
 -- ---- any step
 

@@ -2,6 +2,8 @@
 use Rattle.std.specs.List.{AllByRecursion}
 use Rattle.node_rules.specs.Nodes.{Node}
 use Rattle.node_rules.proofs.Lists.{all_push, all_weaken}
+use Rattle.node_rules.specs.Turns.{Turn}
+use Rattle.node_rules.proofs.Places.{unshown_sites}
 use Rattle.shard_node.specs.States.{ReplicaState}
 use Rattle.shard_node.proofs.Places as shard
 use Rattle.client_node.specs.States.{ClientState}
@@ -23,19 +25,15 @@ module _ {S : Type 0} (k : Kind S)
     (stored : (n : Node S) (event : Event) (s : Node S) (item : Item) (own : S) → k.places.Stores n event s item own → IsNoVote item) where
   all_stored_so : (n : Node S) (event : Event) → AllByRecursion IsNoVote (k.step n event).stable
   all_stored_so n event =
-      k.walk (λ t. AllByRecursion IsNoVote t.stable) n event
+      k.walk _ n event
+      (unshown_sites (λ (t : Turn S). AllByRecursion IsNoVote t.stable)
       (record {
         starts = tt;
         restarts = λ e. tt;
         learns = λ t entry why w. all_push IsNoVote t.stable (items.Known entry) w tt;
-        sees = λ t from slot count entry why w. w;
-        ticks = λ t why w. w;
-        asks = λ t to why w. w;
-        says = λ t to what why w. w;
-        shows = λ t mark why w. w;
         stores = λ t item own why w. all_push IsNoVote t.stable item w (stored n event t.state item own why);
         changes = λ t own why w. w;
-      })
+      }))
 
   -- so does what holds of all but votes
   pub no_votes : (T : Item → Type 0) → ((item : Item) → IsNoVote item → T item) → (n : Node S) (event : Event) → AllByRecursion T (k.step n event).stable

@@ -12,7 +12,7 @@ use Rattle.node_rules.specs.Nodes.{Node, agreed_by, has_slot}
 use Rattle.node_rules.specs.Turns.{Turn, started, me_of, own_of, agreed, count_known, put_own}
 use Rattle.node_rules.specs.Rules.{learned, learn, learn_next, with_seen, ask, decided}
 use Rattle.node_rules.proofs.Lists.{on_test, on_fold}
-use Rattle.node_rules.proofs.Places.{IsTold}
+use Rattle.node_rules.proofs.Places.{IsTold, unshown_sites}
 use Rattle.shard_node.specs.States.{ReplicaState, shard_of, log_of, with_promised}
 use Rattle.shard_node.specs.Learning.{confirm_from, covered_is_durable, notice, on_learned}
 use Rattle.shard_node.specs.Promises.{lease_at, to_promise, promise_record, promise, promise_some, promise_all}
@@ -94,19 +94,15 @@ module _ (n : Node ReplicaState) (event : Event) (none : (s : Node ReplicaState)
 
   step_untold : Promises n → Promises (replica_step n event).state
   step_untold start =
-      replica_walk OfTurn n event
+      replica_walk _ n event
+      (unshown_sites OfTurn
       (record {
         starts = start;
         restarts = λ e. (omega arith, omega arith);
         learns = λ t entry why w. absurd (none t.state entry why);
-        sees = λ t from slot count entry why w. w;
-        ticks = λ t why w. w;
-        asks = λ t to why w. w;
-        says = λ t to what why w. w;
-        shows = λ t mark why w. w;
         stores = λ t item own why w. stored t.state item own why w;
         changes = λ t own why w. changed t.state own why w;
-      })
+      }))
 
 -- ---- any step
 

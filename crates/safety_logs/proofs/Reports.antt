@@ -6,7 +6,8 @@ use Rattle.msg_wire.specs.Entries.{is_entry}
 use Rattle.net_model.specs.Pasts.{Past}
 use Rattle.node_rules.specs.Nodes.{Node, agreed_by}
 use Rattle.node_rules.proofs.Lists.{on_test, all_or, all_replicate}
-use Rattle.node_rules.proofs.Places.{Comes}
+use Rattle.node_rules.specs.Turns.{Turn}
+use Rattle.node_rules.proofs.Places.{Comes, unshown_sites}
 use Rattle.seq_node.specs.States.{SlotAttempt, SequencerState, with_greatest, with_report, with_attempt, with_idle}
 use Rattle.seq_node.specs.Learning.{wish_granted, attempt_over}
 use Rattle.seq_node.proofs.Places.{Stores, promised, accepted, begins_at_once, begins, sends, Changes, waits, hears, reports, wishes, idles}
@@ -94,19 +95,15 @@ module _ (primary backup : ℕ → ℕ) where
 
     step_keeps : Keeps n.own → Keeps (sequencers.step n event).state.own
     step_keeps start =
-        sequencers.walk (λ t. Keeps t.state.own) n event
+        sequencers.walk _ n event
+        (unshown_sites (λ (t : Turn SequencerState). Keeps t.state.own)
         (record {
           starts = start;
           restarts = λ e. (none_up_to primary, none_up_to backup);
           learns = λ t entry why w. over_kept t.state.own.attempt (agreed_by t.state.base).slots entry (with_idle 0 t.state.own) w;
-          sees = λ t from slot count entry why w. w;
-          ticks = λ t why w. w;
-          asks = λ t to why w. w;
-          says = λ t to what why w. w;
-          shows = λ t mark why w. w;
           stores = λ t item own why w. stores_kept t.state item own why w;
           changes = λ t own why w. changes_kept t.state own why w;
-        })
+        }))
 
 -- ---- of every run
 

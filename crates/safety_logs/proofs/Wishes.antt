@@ -11,7 +11,8 @@ use Rattle.msg_wire.specs.Valid.{IsValidConfig}
 use Rattle.net_model.specs.Pasts.{Past}
 use Rattle.node_rules.specs.Nodes.{Node, agreed_by, knowing}
 use Rattle.node_rules.proofs.Lists.{on_test, all_weaken}
-use Rattle.node_rules.proofs.Places.{Comes}
+use Rattle.node_rules.specs.Turns.{Turn}
+use Rattle.node_rules.proofs.Places.{Comes, unshown_sites}
 use Rattle.seq_node.specs.States.{SlotAttempt, SequencerState, with_attempt, with_idle}
 use Rattle.seq_node.specs.Learning.{wish_granted, attempt_over}
 use Rattle.seq_node.proofs.Limits.{slots_known}
@@ -119,7 +120,8 @@ module _ (primary backup : ℕ → ℕ) where
       → ((from : NodeId) (len : ℕ) → Comes n event from (whats.Report len) → IsToldUpTo primary backup from len)
       → Keeps primary backup n.own → Wishes n → Wishes (sequencers.step n event).state
   step_good n event told keeps good =
-      (sequencers.walk (λ t. Keeps primary backup t.state.own × Wishes t.state) n event
+      (sequencers.walk _ n event
+      (unshown_sites (λ (t : Turn SequencerState). Keeps primary backup t.state.own × Wishes t.state)
       (record {
         starts = (keeps, good);
         restarts = λ e. ((none_up_to primary, none_up_to backup), tt);
@@ -127,14 +129,9 @@ module _ (primary backup : ℕ → ℕ) where
           over_kept primary backup t.state.own.attempt (agreed_by t.state.base).slots entry (with_idle 0 t.state.own) w.0,
           learned_good t.state entry w.1,
         );
-        sees = λ t from slot count entry why w. w;
-        ticks = λ t why w. w;
-        asks = λ t to why w. w;
-        says = λ t to what why w. w;
-        shows = λ t mark why w. w;
         stores = λ t item own why w. (stores_kept primary backup n event told t.state item own why w.0, stores_good n event t.state item own why w.0 w.1);
         changes = λ t own why w. (changes_kept primary backup n event told t.state own why w.0, changes_good n event t.state own why w.1);
-      })).1
+      }))).1
 
 -- ---- of every run
 
