@@ -6,14 +6,14 @@ use Rattle.std.proofs.lemmas.List.Elements.{filter_map-append}
 use Rattle.fix_ante.specs.declared.spots.Spot.{Spot}
 use Rattle.msg_wire.specs.Heeded.{is_heeded}
 use Rattle.msg_wire.specs.Nodes.{number_of}
-use Rattle.node_rules.specs.Names.{NodeId, Item, Message, What, Event}
+use Rattle.node_rules.specs.Names.{NodeId, Entry, Item, Message, What, Event}
 use Rattle.node_rules.specs.Names.items
 use Rattle.node_rules.specs.Names.events
 use Rattle.node_rules.specs.Names.whats
 use Rattle.node_rules.specs.Nodes.{Node}
 use Rattle.node_rules.specs.Turns.{Turn, started, own_of, put_own, store}
 use Rattle.node_rules.proofs.Lists.{on_test, on_option, on_fold}
-use Rattle.node_rules.proofs.Places.{Comes}
+use Rattle.node_rules.proofs.Places.{Comes, unshown_sites}
 use Rattle.client_node.specs.States.{ClientState, is_home_gone, numbers_in_reach}
 use Rattle.client_node.specs.Rules.{append, append_all, with_home, row_for, move_to, may_move, hear_fate}
 use Rattle.client_node.specs.Steps.{hear, client_step}
@@ -35,6 +35,21 @@ pub none_more : {X : Type 0} (f : Item → Option X) (stable : List Item) (item 
 none_more f stable item none =
     filter_map-append f stable (item ∷ []) ∙ (ap (λ l. filter_map f stable ++ l) none ∙ append-nil (filter_map f stable))
 
+-- a step stores nothing that is read where no place of it does
+pub reads_none : {X : Type 0} (f : Item → Option X) (n : Node ClientState) (event : Event) → ((entry : Entry) → filter_map f (items.Known entry ∷ []) ≡ [])
+    → ((s : Node ClientState) (item : Item) (own : ClientState) → Stores n event s item own → filter_map f (item ∷ []) ≡ [])
+    → filter_map f (client_step n event).stable ≡ []
+reads_none f n event known stored =
+    client_walk _ n event
+    (unshown_sites (λ (t : Turn ClientState). filter_map f t.stable ≡ [])
+    (record {
+      starts = refl;
+      restarts = λ e. refl;
+      learns = λ t entry why w. none_more f t.stable (items.Known entry) (known entry) ∙ w;
+      stores = λ t item own why w. none_more f t.stable item (stored t.state item own why) ∙ w;
+      changes = λ t own why w. absurd why;
+    }))
+
 pub no_home : (stable : List Item) (item : Item) → homes_in (item ∷ []) ≡ [] → homes_in (stable ++ item ∷ []) ≡ homes_in stable
 no_home = none_more home_in
 
@@ -45,20 +60,7 @@ module _ (n : Node ClientState) (event : Event) (none : NoFate n event) where
   stored_no_home s _ _ (moves from next row comes home gone next_is row_is) = absurd (none from next comes)
 
   stays_home : homes_in (client_step n event).stable ≡ []
-  stays_home =
-      client_walk (λ t. homes_in t.stable ≡ []) n event
-      (record {
-        starts = refl;
-        restarts = λ e. refl;
-        learns = λ t entry why w. no_home t.stable (items.Known entry) refl ∙ w;
-        sees = λ t from slot count entry why w. w;
-        ticks = λ t why w. w;
-        asks = λ t to why w. w;
-        says = λ t to what why w. w;
-        shows = λ t mark why w. w;
-        stores = λ t item own why w. no_home t.stable item (stored_no_home t.state item own why) ∙ w;
-        changes = λ t own why w. absurd why;
-      })
+  stays_home = reads_none home_in n event (λ entry. refl) stored_no_home
 
 -- ---- a Fate
 

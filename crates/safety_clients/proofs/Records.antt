@@ -7,7 +7,8 @@ use Rattle.msg_wire.specs.Valid.{IsValidConfig, IsNodeOf}
 use Rattle.net_model.specs.Pasts.{Past}
 use Rattle.node_rules.specs.Nodes.{Node}
 use Rattle.node_rules.proofs.Lists.{all_replicate, all_at}
-use Rattle.node_rules.proofs.Places.{Comes}
+use Rattle.node_rules.specs.Turns.{Turn}
+use Rattle.node_rules.proofs.Places.{Comes, unshown_sites}
 use Rattle.shard_log.specs.ShardLog.{expected_of}
 use Rattle.shard_node.specs.States.{ReplicaState}
 use Rattle.shard_node.proofs.Places.{Stores, appends, copied, fills, Changes, holds, covers, cuts, promises_on}
@@ -174,19 +175,15 @@ module _ (cfg : Config) (valid : IsValidConfig cfg) (shard : ℕ) (e : HistoryEn
 
   step_are : Are n.own.log → Are (replicas.step n e.event).state.own.log
   step_are start =
-      replicas.walk (λ t. Are t.state.own.log) n e.event
+      replicas.walk _ n e.event
+      (unshown_sites (λ (t : Turn ReplicaState). Are t.state.own.log)
       (record {
         starts = start;
         restarts = λ r. start;
         learns = λ t entry why w. w;
-        sees = λ t from slot count entry why w. w;
-        ticks = λ t why w. w;
-        asks = λ t to why w. w;
-        says = λ t to what why w. w;
-        shows = λ t mark why w. w;
         stores = λ t item own_part why w. stored t.state item own_part why w;
         changes = λ t own_part why w. changed t.state own_part why w;
-      })
+      }))
 
   own_are : Are (log_at cfg shard sides.Primary past) → Are (log_at cfg shard sides.Primary (e ∷ past))
   own_are before =

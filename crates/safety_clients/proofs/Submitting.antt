@@ -17,7 +17,6 @@ use Rattle.client_node.specs.States.{ClientState, is_in_reach, is_home_gone, cou
 use Rattle.client_node.specs.Rules.{with_body, append, append_new, submit, submitted}
 use Rattle.client_node.specs.Steps.{client_step}
 use Rattle.client_node.proofs.Places.{Stores, submits, counts, moves}
-use Rattle.client_node.proofs.Walk.{client_walk}
 use Rattle.runs.specs.Names.{Config, HistoryEntry}
 use Rattle.runs.specs.Names.nodes
 use Rattle.runs.specs.Kinds.{items_at}
@@ -30,7 +29,7 @@ use Rattle.safety_frame.proofs.Pasts.{own_items, other_stored, own_submitted, ot
 use Rattle.safety_frame.proofs.Inductions.{every_past}
 use Rattle.safety_frame.proofs.Lists.{begins_same, begins_more, begins_on}
 use Rattle.safety_clients.specs.Homes.{bodies_at, BodiesAreSubmitted}
-use Rattle.safety_clients.proofs.Moving.{none_more}
+use Rattle.safety_clients.proofs.Moving.{reads_none}
 use Rattle.safety_clients.proofs.Turns as turns
 
 -- ---- a step
@@ -43,20 +42,7 @@ module _ (n : Node ClientState) (event : Event) (none : (by : ℕ) (body : List 
   stored_none s _ _ (moves from next row comes home gone next_is row_is) = refl
 
   step_none : bodies_by (client_step n event).stable ≡ []
-  step_none =
-      client_walk (λ t. bodies_by t.stable ≡ []) n event
-      (record {
-        starts = refl;
-        restarts = λ e. refl;
-        learns = λ t entry why w. none_more body_stored t.stable (items.Known entry) refl ∙ w;
-        sees = λ t from slot count entry why w. w;
-        ticks = λ t why w. w;
-        asks = λ t to why w. w;
-        says = λ t to what why w. w;
-        shows = λ t mark why w. w;
-        stores = λ t item own why w. none_more body_stored t.stable item (stored_none t.state item own why) ∙ w;
-        changes = λ t own why w. absurd why;
-      })
+  step_none = reads_none body_stored n event (λ entry. refl) stored_none
 
 -- what is submitted is stored, or the numbers have ended
 abbrev Stored : Node ClientState → Event → List Item → Type 0
