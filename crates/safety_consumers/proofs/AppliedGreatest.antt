@@ -19,7 +19,7 @@ use Rattle.consumer_node.specs.Sound.{held_for}
 use Rattle.consumer_node.specs.Speculation.{held_of, with_confirmed}
 use Rattle.consumer_node.specs.States.{ConsumerState, applied_of}
 use Rattle.consumer_node.specs.Steps.{consumer_step}
-use Rattle.consumer_node.proofs.Places.{Stage, all_applied, output_due, StagedSites}
+use Rattle.consumer_node.proofs.Places.{Stage, all_applied, output_due, StagedSites, Unsent, unsent_stages}
 use Rattle.consumer_node.proofs.Walk.{staged_walk}
 use Rattle.runs.specs.Names.{Config}
 use Rattle.runs.specs.Names.nodes
@@ -61,29 +61,27 @@ module _ {A : Type 0} (app : Meaning A) (n : Node (ConsumerState A)) (event : Ev
       ap (held_for a (with_confirmed app rec o s)) same
       ∙ none_found s.lanes (with_floor s.lanes o.shard) (mapped a (applied_of s)) (λ u. none_confirmed u s.lanes o.shard) none
 
-  greatest_sites : StagedSites app AtEnd n event
-  greatest_sites = record {
-    asks = λ t to why w. tt;
-    says = λ t to what why w. tt;
-    sees = λ t from slot count entry comes w. tt;
-    ticks = λ t comes w. tt;
-    holds = λ t from local rec comes w. tt;
-    learns = λ t entry told w. tt;
-    notices = λ t shard first w. tt;
-    undoes = λ t first past w. tt;
-    undoes_none = λ t first none w. tt;
-    moves_none = λ t effect stays w. tt;
-    closes = λ t w. tt;
-    applies = λ t rec held w. tt;
-    leaves_none = λ t none w. none;
-    confirms = λ t rec o why w. confirmed_greatest (agreed t) (own_of t) rec o why.oldest w;
-    gives = λ t output some w. w;
-    gives_none = λ t output none w. w;
-    restarts = λ same w. none_at_all (reset_own n.own).lanes (mapped (agreed_by n.base) (applied_of (reset_own n.own))) (nothing_left n.own);
-  }
+  greatest_sites : StagedSites app (Unsent AtEnd) n event
+  greatest_sites =
+      unsent_stages app AtEnd n event
+      (record {
+        holds = λ t from local rec comes w. tt;
+        learns = λ t entry told w. tt;
+        notices = λ t shard first w. tt;
+        undoes = λ t first past w. tt;
+        undoes_none = λ t first none w. tt;
+        moves_none = λ t effect stays w. tt;
+        closes = λ t w. tt;
+        applies = λ t rec held w. tt;
+        leaves_none = λ t none w. none;
+        confirms = λ t rec o why w. confirmed_greatest (agreed t) (own_of t) rec o why.oldest w;
+        gives = λ t output some w. w;
+        gives_none = λ t output none w. w;
+        restarts = λ same w. none_at_all (reset_own n.own).lanes (mapped (agreed_by n.base) (applied_of (reset_own n.own))) (nothing_left n.own);
+      })
 
   pub step_greatest : IsGreatest (agreed_by (consumer_step app n event).state.base) (consumer_step app n event).state.own
-  step_greatest = staged_walk app AtEnd n event greatest_sites tt
+  step_greatest = staged_walk app (Unsent AtEnd) n event greatest_sites tt
 
 -- ---- every run
 

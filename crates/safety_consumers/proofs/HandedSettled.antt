@@ -34,6 +34,7 @@ use Rattle.consumer_node.proofs.Turns.{Keeps, kept_sites}
 use Rattle.consumer_node.proofs.Walk.{staged_walk}
 use Rattle.safety_consumers.specs.Handed.{IsSettled}
 use Rattle.safety_consumers.proofs.HandedLanes.{IsSettledAt, settled_put, settled_raised, settled_ended, put_settles}
+use Rattle.safety_consumers.proofs.Stages.{Both, both_sites}
 
 -- ---- one entry more
 
@@ -53,8 +54,11 @@ module _ {A : Type 0} (app : Meaning A) (n : Node (ConsumerState A)) (event : Ev
   -- ---- what is settled stays so
 
   module _ (valid : IsValidEvent event) (small : o.shard < 6) where
+    abbrev OwnerSettled : Stage → Turn (ConsumerState A) → Type 0
+    OwnerSettled stage t = IsSettled (agreed t) (own_of t) o
+
     abbrev Settled : Stage → Turn (ConsumerState A) → Type 0
-    Settled stage t = Keeps app n stage t × IsSettled (agreed t) (own_of t) o
+    Settled = Both app (Keeps app n) OwnerSettled n event
 
     closes_settled : (t : Turn (ConsumerState A)) → Settled undo_done t → IsSettled (agreed (close_all t)) (own_of (close_all t)) o
     closes_settled t w =
@@ -68,45 +72,35 @@ module _ {A : Type 0} (app : Meaning A) (n : Node (ConsumerState A)) (event : Ev
 
     settled_sites : StagedSites app Settled n event
     settled_sites =
-        let kept = kept_sites app n event valid in
-        record {
-          asks = λ t to why w. (kept.asks t to why w.0, w.1);
-          says = λ t to what why w. (kept.says t to what why w.0, w.1);
-          sees = λ t from slot count entry comes w. (kept.sees t from slot count entry comes w.0, w.1);
-          ticks = λ t comes w. (kept.ticks t comes w.0, w.1);
+        both_sites app (Keeps app n) OwnerSettled n event (kept_sites app n event valid)
+        (record {
           holds = λ t from local rec comes w.
               let lanes = (own_of t).lanes in
               let shard : ℕ = number_of from in
-              let end = gone_end (agreed t) o.shard in (
-                kept.holds t from local rec comes w.0,
-                set_each (λ before after. IsSettledAt end before o.local → IsSettledAt end after o.local) lanes shard
-                    (after_put (answer_to lanes shard local) (lane_of lanes shard) local rec) (λ lane settled. settled)
-                    (settled_put end (lane_of lanes shard) o.local local rec) o.shard w.1,
-              );
-          learns = λ t entry told w. (
-            kept.learns t entry told w.0,
-            subst (λ (a : Agreement). IsSettled a (own_of t) o)
-                (sym (applied_all-push (agreement_from (first_window t.state.base.cfg)) t.state.base.known entry))
-                (settled_learned (agreed t) entry (lane_of (own_of t).lanes o.shard) o.shard o.local w.1),
-          );
-          notices = λ t shard first w. (kept.notices t shard first w.0, w.1);
-          undoes = λ t first past w. (kept.undoes t first past w.0, w.1);
-          undoes_none = λ t first none w. (kept.undoes_none t first none w.0, w.1);
-          moves_none = λ t effect stays w. (kept.moves_none t effect stays w.0, w.1);
-          closes = λ t w. (kept.closes t w.0, closes_settled t w);
-          applies = λ t rec held w. (kept.applies t rec held w.0, w.1);
-          leaves_none = λ t none w. (kept.leaves_none t none w.0, w.1);
+              let end = gone_end (agreed t) o.shard in
+              set_each (λ before after. IsSettledAt end before o.local → IsSettledAt end after o.local) lanes shard
+              (after_put (answer_to lanes shard local) (lane_of lanes shard) local rec) (λ lane settled. settled)
+              (settled_put end (lane_of lanes shard) o.local local rec) o.shard w.1;
+          learns = λ t entry told w.
+              subst (λ (a : Agreement). IsSettled a (own_of t) o)
+              (sym (applied_all-push (agreement_from (first_window t.state.base.cfg)) t.state.base.known entry))
+              (settled_learned (agreed t) entry (lane_of (own_of t).lanes o.shard) o.shard o.local w.1);
+          notices = λ t shard first w. w.1;
+          undoes = λ t first past w. w.1;
+          undoes_none = λ t first none w. w.1;
+          moves_none = λ t effect stays w. w.1;
+          closes = λ t w. closes_settled t w;
+          applies = λ t rec held w. w.1;
+          leaves_none = λ t none w. w.1;
           confirms = λ t rec u why w.
               let lanes = (own_of t).lanes in
-              let end = gone_end (agreed t) o.shard in (
-                kept.confirms t rec u why w.0,
-                set_each (λ before after. IsSettledAt end before o.local → IsSettledAt end after o.local) lanes u.shard (raised (lane_of lanes u.shard))
-                    (λ lane settled. settled) (settled_raised end (lane_of lanes u.shard) o.local (all_lane lanes u.shard w.0.own.lanes)) o.shard w.1,
-              );
-          gives = λ t output some w. (kept.gives t output some w.0, w.1);
-          gives_none = λ t output none w. (kept.gives_none t output none w.0, w.1);
+              let end = gone_end (agreed t) o.shard in
+              set_each (λ before after. IsSettledAt end before o.local → IsSettledAt end after o.local) lanes u.shard (raised (lane_of lanes u.shard))
+              (λ lane settled. settled) (settled_raised end (lane_of lanes u.shard) o.local (all_lane lanes u.shard w.0.own.lanes)) o.shard w.1;
+          gives = λ t output some w. w.1;
+          gives_none = λ t output none w. w.1;
           restarts = λ same w. absurd (other same);
-        }
+        })
 
     pub step_settled : IsConsumer n → IsSettled (agreed_by n.base) n.own o
         → IsSettled (agreed_by (consumer_step app n event).state.base) (consumer_step app n event).state.own o

@@ -21,7 +21,7 @@ use Rattle.consumer_node.specs.States.{ConsumerState}
 use Rattle.consumer_node.specs.Steps.{consumer_step}
 use Rattle.consumer_node.proofs.Closings.{lane_set, set_each, lane_mapped}
 use Rattle.consumer_node.proofs.Lanes.{put_one}
-use Rattle.consumer_node.proofs.Places.{Stage, all_applied, output_due, StagedSites}
+use Rattle.consumer_node.proofs.Places.{Stage, all_applied, output_due, StagedSites, Unsent, unsent_stages}
 use Rattle.consumer_node.proofs.Walk.{staged_walk}
 use Rattle.safety_consumers.proofs.HandedLanes.{was_there, none_raised, none_closed, held_or_put}
 
@@ -91,41 +91,39 @@ module _ {A : Type 0} (app : Meaning A) (n : Node (ConsumerState A)) (event : Ev
             ]
       ]
 
-  accounting_sites : StagedSites app Accounts n event
-  accounting_sites = record {
-    asks = λ t to why w. w;
-    says = λ t to what why w. w;
-    sees = λ t from slot count entry comes w. w;
-    ticks = λ t comes w. w;
-    holds = λ t from local rec comes w.
-        let lanes = (own_of t).lanes in
-        let shard : ℕ = number_of from in (
-          set_each (λ before after. after.floor ≡ before.floor) lanes shard (after_put (answer_to lanes shard local) (lane_of lanes shard) local rec)
-              (λ lane. refl) (put_one (lane_of lanes shard) local rec).floor o.shard ∙ w.0,
-          held_put lanes from local rec comes w.0 w.1,
-        );
-    learns = λ t entry told w. w;
-    notices = λ t shard first w. w;
-    undoes = λ t first past w. w;
-    undoes_none = λ t first none w. w;
-    moves_none = λ t effect stays w. w;
-    closes = λ t w.
-        let lanes = (own_of t).lanes in (
-          floors_closed o (agreed t).gone lanes o.shard ∙ w.0,
-          λ held. w.1 (was_there (held_of lanes o) (held_of (fold close lanes (agreed t).gone) o) (none_closed_all o (agreed t).gone lanes) held),
-        );
-    applies = λ t rec held w. w;
-    leaves_none = λ t none w. (tt, w.1);
-    confirms = λ t rec u why w.
-        let lanes = (own_of t).lanes in
-        (tt, λ held. w.1 (was_there (held_of lanes o) (held_of (with_floor lanes u.shard) o) (none_confirmed o lanes u.shard) held));
-    gives = λ t output some w. w;
-    gives_none = λ t output none w. (tt, w.1);
-    restarts = λ same w. absurd (other same);
-  }
+  accounting_sites : StagedSites app (Unsent Accounts) n event
+  accounting_sites =
+      unsent_stages app Accounts n event
+      (record {
+        holds = λ t from local rec comes w.
+            let lanes = (own_of t).lanes in
+            let shard : ℕ = number_of from in (
+              set_each (λ before after. after.floor ≡ before.floor) lanes shard (after_put (answer_to lanes shard local) (lane_of lanes shard) local rec)
+                  (λ lane. refl) (put_one (lane_of lanes shard) local rec).floor o.shard ∙ w.0,
+              held_put lanes from local rec comes w.0 w.1,
+            );
+        learns = λ t entry told w. w;
+        notices = λ t shard first w. w;
+        undoes = λ t first past w. w;
+        undoes_none = λ t first none w. w;
+        moves_none = λ t effect stays w. w;
+        closes = λ t w.
+            let lanes = (own_of t).lanes in (
+              floors_closed o (agreed t).gone lanes o.shard ∙ w.0,
+              λ held. w.1 (was_there (held_of lanes o) (held_of (fold close lanes (agreed t).gone) o) (none_closed_all o (agreed t).gone lanes) held),
+            );
+        applies = λ t rec held w. w;
+        leaves_none = λ t none w. (tt, w.1);
+        confirms = λ t rec u why w.
+            let lanes = (own_of t).lanes in
+            (tt, λ held. w.1 (was_there (held_of lanes o) (held_of (with_floor lanes u.shard) o) (none_confirmed o lanes u.shard) held));
+        gives = λ t output some w. w;
+        gives_none = λ t output none w. (tt, w.1);
+        restarts = λ same w. absurd (other same);
+      })
 
   pub step_holds : HeldOrDelivered (consumer_step app n event).state.own.lanes
-  step_holds = (staged_walk app Accounts n event accounting_sites (refl, λ held. inl held)).1
+  step_holds = (staged_walk app (Unsent Accounts) n event accounting_sites (refl, λ held. inl held)).1
 
 -- ---- a restart holds nothing
 

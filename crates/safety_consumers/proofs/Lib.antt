@@ -1,4 +1,5 @@
 pub mod Lists
+pub mod Stages
 pub mod EachConsumer
 pub mod Removals
 pub mod Telling

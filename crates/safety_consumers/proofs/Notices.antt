@@ -26,6 +26,7 @@ use Rattle.safety_consumers.proofs.Telling.{Tells, confirmed_count, applied_long
 use Rattle.safety_consumers.proofs.TellingSteps.{Telling, telling_sites, telling_start}
 use Rattle.safety_consumers.proofs.Told.{tells}
 use Rattle.safety_consumers.proofs.Points.{state_is_the_fold}
+use Rattle.safety_consumers.proofs.Stages.{Both, both_sites}
 
 -- ---- marks one after another
 
@@ -79,7 +80,7 @@ module _ (kind : AppKind) (shown : List Mark) (stored : List Item) (n : Consumer
   Follows _ t = UndosFollowNotices event shown t.marks
 
   abbrev Noticing : Stage → Turn (ConsumerState AnyApp) → Type 0
-  Noticing stage t = Telling kind shown stored n event valid stage t × Follows stage t
+  Noticing = Both any_meaning (Telling kind shown stored n event valid) Follows n event
 
   undone : (t : Turn (ConsumerState AnyApp)) (first : ℕ) → first < applied t → NoticeShown event shown first t.marks (applied t)
       → UndosFollowNotices event shown (t.marks ++ marks.Undo first ∷ [])
@@ -104,29 +105,22 @@ module _ (kind : AppKind) (shown : List Mark) (stored : List Item) (n : Consumer
 
   noticing_sites : StagedSites any_meaning Noticing n event
   noticing_sites =
-      let k = telling_sites kind shown stored n event valid in
-      record {
-        asks = λ t to why w. (k.asks t to why w.0, w.1);
-        says = λ t to what why w. (k.says t to what why w.0, w.1);
-        sees = λ t from slot count entry comes w. (k.sees t from slot count entry comes w.0, w.1);
-        ticks = λ t comes w. (k.ticks t comes w.0, w.1);
-        holds = λ t from local rec comes w. (k.holds t from local rec comes w.0, w.1);
-        learns = λ t entry told w. (k.learns t entry told w.0, w.1);
-        notices = λ t shard first w. (
-          k.notices t shard first w.0,
-          record { before = t.marks; last = refl; follow = w.1; long = applied_long w.0.1.0 },
-        );
-        undoes = λ t first past w. (k.undoes t first past w.0, undone t first past w.1);
-        undoes_none = λ t first none w. (k.undoes_none t first none w.0, none_undone t first none w.1);
-        moves_none = λ t effect stays w. (k.moves_none t effect stays w.0, w.1);
-        closes = λ t w. (k.closes t w.0, w.1);
-        applies = λ t rec held w. (k.applies t rec held w.0, follow_on event shown t.marks (marks.Apply (applied t) rec) [] tt w.1 tt);
-        leaves_none = λ t none w. (k.leaves_none t none w.0, w.1);
-        confirms = λ t rec o why w. (k.confirms t rec o why w.0, follow_on event shown t.marks (marks.Confirm (own_of t).confirmed rec) [] tt w.1 tt);
-        gives = λ t output some w. (k.gives t output some w.0, follow_on event shown t.marks (marks.Out output) [] tt w.1 tt);
-        gives_none = λ t output none w. (k.gives_none t output none w.0, w.1);
-        restarts = λ same w. (k.restarts same w.0, restarted same w.0.1.0);
-      }
+      both_sites any_meaning (Telling kind shown stored n event valid) Follows n event (telling_sites kind shown stored n event valid)
+      (record {
+        holds = λ t from local rec comes w. w.1;
+        learns = λ t entry told w. w.1;
+        notices = λ t shard first w. record { before = t.marks; last = refl; follow = w.1; long = applied_long w.0.1.0 };
+        undoes = λ t first past w. undone t first past w.1;
+        undoes_none = λ t first none w. none_undone t first none w.1;
+        moves_none = λ t effect stays w. w.1;
+        closes = λ t w. w.1;
+        applies = λ t rec held w. follow_on event shown t.marks (marks.Apply (applied t) rec) [] tt w.1 tt;
+        leaves_none = λ t none w. w.1;
+        confirms = λ t rec o why w. follow_on event shown t.marks (marks.Confirm (own_of t).confirmed rec) [] tt w.1 tt;
+        gives = λ t output some w. follow_on event shown t.marks (marks.Out output) [] tt w.1 tt;
+        gives_none = λ t output none w. w.1;
+        restarts = λ same w. restarted same w.0.1.0;
+      })
 
   pub step_notices : IsConsumer n → Tells kind shown stored [] n.own.confirmed n.own.base n.own.pending
       → UndosFollowNotices event shown (consumer_step any_meaning n event).marks

@@ -36,6 +36,19 @@ promise_shown : (shown : List Mark) (position at : ℕ) (rec known : Record) →
 promise_shown shown position at rec known here is c =
     subst (λ p. Contains shown (marks.Promise p known)) here (subst (λ r. Contains shown (marks.Promise position r)) is c)
 
+-- no mark is shown where a position or a record is missing
+promises_silently : (position : Option ℕ) (rec : Option Record) (local : ℕ) (t : Turn ReplicaState)
+    → ((at : ℕ) (known : Record) → position ≡ Some at → rec ≡ Some known → ⊥)
+    → PromisesOne position rec local t (put_own (with_promised (local + 1) (own_of t)) t)
+promises_silently position rec local t missing = record {
+  base = refl;
+  log = refl;
+  durable = refl;
+  promised = refl;
+  keeps = λ mark c. c;
+  shown = λ at known here is. absurd (missing at known here is);
+}
+
 promises_one : (position : Option ℕ) (rec : Option Record) (local : ℕ) (t : Turn ReplicaState)
     → PromisesOne position rec local t (put_own (with_promised (local + 1) (own_of t)) (promise_record position rec local t))
 promises_one (Some position) (Some rec) local t = record {
@@ -47,22 +60,8 @@ promises_one (Some position) (Some rec) local t = record {
   shown = λ at known here is.
       promise_shown _ position at rec known (same_Some position at here) (same_Some rec known is) (Contains-push t.marks (marks.Promise position rec));
 }
-promises_one (Some position) None local t = record {
-  base = refl;
-  log = refl;
-  durable = refl;
-  promised = refl;
-  keeps = λ mark c. c;
-  shown = λ at known here is. absurd (cc);
-}
-promises_one None rec local t = record {
-  base = refl;
-  log = refl;
-  durable = refl;
-  promised = refl;
-  keeps = λ mark c. c;
-  shown = λ at known here is. absurd (cc);
-}
+promises_one (Some position) None local t = promises_silently (Some position) None local t (λ at known here is. cc)
+promises_one None rec local t = promises_silently None rec local t (λ at known here is. cc)
 
 -- ---- all of them
 

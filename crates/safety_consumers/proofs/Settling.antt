@@ -37,6 +37,7 @@ use Rattle.safety_consumers.specs.Owned.{AreOfLogs, IsSettled}
 use Rattle.safety_consumers.proofs.EachConsumer.{Consumer}
 use Rattle.safety_consumers.proofs.TellingSteps.{kept_start}
 use Rattle.safety_consumers.proofs.Holding.{held_put, held_raised, held_closed, held_none, held_stands}
+use Rattle.safety_consumers.proofs.Stages.{Both, both_sites}
 
 -- ---- settled records stay so
 
@@ -81,7 +82,7 @@ module _ (logs : ℕ → List Record) (shown : List Mark) (n : Consumer) (event 
     SettledIn more s = AreOfLogs logs s.own.lanes × AreSettled logs (agreed_by s.base) (confirmations (shown ++ more))
 
     abbrev Settling : Stage → Turn (ConsumerState AnyApp) → Type 0
-    Settling stage t = Keeps any_meaning n stage t × SettledIn t.marks t.state
+    Settling = Both any_meaning (Keeps any_meaning n) (λ stage t. SettledIn t.marks t.state) n event
 
     -- one mark more
     marked : (a : Agreement) (before : List Mark) (mark : Mark) → AreSettled logs a (confirmations (mark ∷ []))
@@ -107,41 +108,25 @@ module _ (logs : ℕ → List Record) (shown : List Mark) (n : Consumer) (event 
 
     settling_sites : StagedSites any_meaning Settling n event
     settling_sites =
-        let k = kept_sites any_meaning n event valid in
-        record {
-          asks = λ t to why w. (k.asks t to why w.0, w.1);
-          says = λ t to what why w. (k.says t to what why w.0, w.1);
-          sees = λ t from slot count entry comes w. (k.sees t from slot count entry comes w.0, w.1);
-          ticks = λ t comes w. (k.ticks t comes w.0, w.1);
-          holds = λ t from local rec comes w. (
-            k.holds t from local rec comes w.0,
-            (held_put logs (own_of t).lanes (number_of from) local rec (delivered from local rec comes) w.1.0, w.1.1),
-          );
-          learns = λ t entry told w. (
-            k.learns t entry told w.0,
-            (w.1.0, settled_known logs t.state.base entry (confirmations (shown ++ t.marks)) w.1.1),
-          );
-          notices = λ t shard first w. (k.notices t shard first w.0, (w.1.0, marked (agreed t) t.marks (marks.Notice first) tt w.1.1));
-          undoes = λ t first past w. (k.undoes t first past w.0, (w.1.0, marked (agreed t) t.marks (marks.Undo first) tt w.1.1));
-          undoes_none = λ t first none w. (k.undoes_none t first none w.0, w.1);
-          moves_none = λ t effect stays w. (k.moves_none t effect stays w.0, w.1);
-          closes = λ t w. (k.closes t w.0, (held_closed logs (agreed t).gone (own_of t).lanes w.1.0, w.1.1));
-          applies = λ t rec held w. (
-            k.applies t rec held w.0,
-            (w.1.0, marked (agreed t) t.marks (marks.Apply (applied_of (own_of t)) rec) tt w.1.1),
-          );
-          leaves_none = λ t none w. (k.leaves_none t none w.0, w.1);
+        both_sites any_meaning (Keeps any_meaning n) (λ stage t. SettledIn t.marks t.state) n event (kept_sites any_meaning n event valid)
+        (record {
+          holds = λ t from local rec comes w. (held_put logs (own_of t).lanes (number_of from) local rec (delivered from local rec comes) w.1.0, w.1.1);
+          learns = λ t entry told w. (w.1.0, settled_known logs t.state.base entry (confirmations (shown ++ t.marks)) w.1.1);
+          notices = λ t shard first w. (w.1.0, marked (agreed t) t.marks (marks.Notice first) tt w.1.1);
+          undoes = λ t first past w. (w.1.0, marked (agreed t) t.marks (marks.Undo first) tt w.1.1);
+          undoes_none = λ t first none w. w.1;
+          moves_none = λ t effect stays w. w.1;
+          closes = λ t w. (held_closed logs (agreed t).gone (own_of t).lanes w.1.0, w.1.1);
+          applies = λ t rec held w. (w.1.0, marked (agreed t) t.marks (marks.Apply (applied_of (own_of t)) rec) tt w.1.1);
+          leaves_none = λ t none w. w.1;
           confirms = λ t rec o why w. (
-            k.confirms t rec o why w.0,
-            (
-              held_raised logs (own_of t).lanes o.shard w.1.0,
-              marked (agreed t) t.marks (marks.Confirm (own_of t).confirmed rec) (oldest_settled t.state rec o why w.0.own w.1.0, tt) w.1.1,
-            ),
+            held_raised logs (own_of t).lanes o.shard w.1.0,
+            marked (agreed t) t.marks (marks.Confirm (own_of t).confirmed rec) (oldest_settled t.state rec o why w.0.own w.1.0, tt) w.1.1,
           );
-          gives = λ t output some w. (k.gives t output some w.0, (w.1.0, marked (agreed t) t.marks (marks.Out output) tt w.1.1));
-          gives_none = λ t output none w. (k.gives_none t output none w.0, w.1);
-          restarts = λ same w. (k.restarts same w.0, (held_none logs n.own.lanes, marked (agreed_by n.base) [] (marks.Undo n.own.confirmed) tt w.1.1));
-        }
+          gives = λ t output some w. (w.1.0, marked (agreed t) t.marks (marks.Out output) tt w.1.1);
+          gives_none = λ t output none w. w.1;
+          restarts = λ same w. (held_none logs n.own.lanes, marked (agreed_by n.base) [] (marks.Undo n.own.confirmed) tt w.1.1);
+        })
 
     pub step_settles : IsConsumer n → AreOfLogs logs n.own.lanes → AreSettled logs (agreed_by n.base) (confirmations shown)
         → SettledIn (consumer_step any_meaning n event).marks (consumer_step any_meaning n event).state

@@ -24,6 +24,7 @@ use Rattle.consumer_node.proofs.Walk.{staged_walk}
 use Rattle.safety_consumers.proofs.EachConsumer.{Consumer}
 use Rattle.safety_consumers.proofs.Removals.{first_uncovered}
 use Rattle.safety_consumers.proofs.Telling.{Tells, of_lists, tells_known, tells_notice, tells_undo, tells_reset, tells_apply, tells_out, tells_confirm}
+use Rattle.safety_consumers.proofs.Stages.{Both, both_sites}
 
 -- the output that is still to go out at a stage
 abbrev pub due_at : Stage → List ℕ
@@ -48,9 +49,11 @@ module _ (kind : AppKind) (shown : List Mark) (stored : List Item) (n : Consumer
   abbrev pub TellsIn : List Mark → List Item → List ℕ → ConsumerState AnyApp → Type 0
   TellsIn more kept due s = Tells kind (shown ++ more) (stored ++ kept) due s.confirmed s.base s.pending
 
+  abbrev pub TellsAt : Stage → Turn (ConsumerState AnyApp) → Type 0
+  TellsAt stage t = TellsIn t.marks t.stable (due_at stage) (own_of t) × LeavesConfirmed stage (own_of t).confirmed
+
   abbrev pub Telling : Stage → Turn (ConsumerState AnyApp) → Type 0
-  Telling stage t =
-      Keeps any_meaning n stage t × (TellsIn t.marks t.stable (due_at stage) (own_of t) × LeavesConfirmed stage (own_of t).confirmed)
+  Telling = Both any_meaning (Keeps any_meaning n) TellsAt n event
 
   -- one mark more, and one item more
   mark_more : (before : List Mark) (mark : Mark) (kept : List Item) (due : List ℕ) (s : ConsumerState AnyApp)
@@ -77,52 +80,29 @@ module _ (kind : AppKind) (shown : List Mark) (stored : List Item) (n : Consumer
 
   pub telling_sites : StagedSites any_meaning Telling n event
   telling_sites =
-      let k = kept_sites any_meaning n event valid in
-      record {
-        asks = λ t to why w. (k.asks t to why w.0, w.1);
-        says = λ t to what why w. (k.says t to what why w.0, w.1);
-        sees = λ t from slot count entry comes w. (k.sees t from slot count entry comes w.0, w.1);
-        ticks = λ t comes w. (k.ticks t comes w.0, w.1);
-        holds = λ t from local rec comes w. (k.holds t from local rec comes w.0, w.1);
+      both_sites any_meaning (Keeps any_meaning n) TellsAt n event (kept_sites any_meaning n event valid)
+      (record {
+        holds = λ t from local rec comes w. w.1;
         learns = λ t entry told w. (
-          k.learns t entry told w.0,
-          (
-            item_more (shown ++ t.marks) t.stable (items.Known entry) [] (own_of t) (tells_known w.1.0 entry),
-            λ shard first e.
-                let room = first_uncovered (agreed t) entry shard first (agreement_by t.state.base w.0.base).sound e in
-                omega (arith, room, w.0.own.confirmed),
-          ),
+          item_more (shown ++ t.marks) t.stable (items.Known entry) [] (own_of t) (tells_known w.1.0 entry),
+          λ shard first e.
+              let room = first_uncovered (agreed t) entry shard first (agreement_by t.state.base w.0.base).sound e in
+              omega (arith, room, w.0.own.confirmed),
         );
-        notices = λ t shard first w. (
-          k.notices t shard first w.0,
-          (mark_more t.marks (marks.Notice first) (stored ++ t.stable) [] (own_of t) (tells_notice first w.1.0), w.1.1 shard first refl),
-        );
-        undoes = λ t first past w. (
-          k.undoes t first past w.0,
-          (mark_more t.marks (marks.Undo first) (stored ++ t.stable) [] (own_of (cut_to first t)) (tells_undo first w.1.1 w.1.0), tt),
-        );
-        undoes_none = λ t first none w. (k.undoes_none t first none w.0, (w.1.0, tt));
-        moves_none = λ t effect stays w. (k.moves_none t effect stays w.0, (w.1.0, tt));
-        closes = λ t w. (k.closes t w.0, w.1);
-        applies = λ t rec held w. (
-          k.applies t rec held w.0,
-          (mark_more t.marks (marks.Apply (applied t) rec) (stored ++ t.stable) [] (own_of (apply t rec)) (tells_apply rec w.1.0), tt),
-        );
-        leaves_none = λ t none w. (k.leaves_none t none w.0, w.1);
-        confirms = λ t rec o why w. (k.confirms t rec o why w.0, (confirmed_one t rec o why.oldest w.1.0, tt));
-        gives = λ t output some w. (
-          k.gives t output some w.0,
-          (mark_more t.marks (marks.Out output) (stored ++ t.stable) [] (own_of t) (tells_out output w.1.0), tt),
-        );
-        gives_none = λ t output none w. (
-          k.gives_none t output none w.0,
-          (subst (λ due. TellsIn t.marks t.stable due (own_of t)) none w.1.0, tt),
-        );
-        restarts = λ same w. (
-          k.restarts same w.0,
-          (mark_more [] (marks.Undo n.own.confirmed) (stored ++ []) [] (reset_own n.own) (tells_reset w.1.0), tt),
-        );
-      }
+        notices = λ t shard first w.
+            (mark_more t.marks (marks.Notice first) (stored ++ t.stable) [] (own_of t) (tells_notice first w.1.0), w.1.1 shard first refl);
+        undoes = λ t first past w.
+            (mark_more t.marks (marks.Undo first) (stored ++ t.stable) [] (own_of (cut_to first t)) (tells_undo first w.1.1 w.1.0), tt);
+        undoes_none = λ t first none w. (w.1.0, tt);
+        moves_none = λ t effect stays w. (w.1.0, tt);
+        closes = λ t w. w.1;
+        applies = λ t rec held w. (mark_more t.marks (marks.Apply (applied t) rec) (stored ++ t.stable) [] (own_of (apply t rec)) (tells_apply rec w.1.0), tt);
+        leaves_none = λ t none w. w.1;
+        confirms = λ t rec o why w. (confirmed_one t rec o why.oldest w.1.0, tt);
+        gives = λ t output some w. (mark_more t.marks (marks.Out output) (stored ++ t.stable) [] (own_of t) (tells_out output w.1.0), tt);
+        gives_none = λ t output none w. (subst (λ due. TellsIn t.marks t.stable due (own_of t)) none w.1.0, tt);
+        restarts = λ same w. (mark_more [] (marks.Undo n.own.confirmed) (stored ++ []) [] (reset_own n.own) (tells_reset w.1.0), tt);
+      })
 
   pub telling_start : IsConsumer n → Tells kind shown stored [] n.own.confirmed n.own.base n.own.pending → Telling between_rules (started n)
   telling_start sound is = (
