@@ -21,7 +21,7 @@ use Rattle.node_rules.specs.Names.events
 use Rattle.node_rules.specs.Nodes.{Node}
 use Rattle.node_rules.specs.Turns.{Turn, started, own_of, put_own, store, send, show, step_of}
 use Rattle.node_rules.proofs.Lists.{on_test, on_option}
-use Rattle.node_rules.proofs.Places.{Comes}
+use Rattle.node_rules.proofs.Places.{Comes, unsent_sites}
 use Rattle.client_node.specs.States.{ClientState, reach, is_home_gone}
 use Rattle.client_node.specs.Rules.{append, ask_fate, with_ack, go_on, acknowledged, hear_ack}
 use Rattle.client_node.specs.Steps.{hear, client_step}
@@ -89,19 +89,16 @@ module _ (n : Node ClientState) where
 
     step_none : Counts 0 (client_step n event)
     step_none =
-        client_walk (Counts 0) n event
+        client_walk _ n event
+        (unsent_sites (Counts 0)
         (record {
           starts = none_counted;
           restarts = λ e. none_counted;
           learns = λ t entry why w. w;
-          sees = λ t from slot count entry why w. w;
-          ticks = λ t why w. w;
-          asks = λ t to why w. w;
-          says = λ t to what why w. w;
           shows = λ t mark why w. absurd (shown_none t.state mark why);
           stores = λ t item own why w. (stored_none t.state item own why ∙ w.0, w.1);
           changes = λ t own why w. absurd why;
-        })
+        }))
 
   -- ---- any step
 

@@ -12,7 +12,7 @@ use Rattle.node_rules.specs.Nodes.{Node, has_slot}
 use Rattle.node_rules.specs.Turns.{Turn, started, agreed, count_known, send, show}
 use Rattle.node_rules.specs.Rules.{learned, learn, learn_next, with_seen, ask, decided}
 use Rattle.node_rules.proofs.Lists.{on_test}
-use Rattle.node_rules.proofs.Places.{IsTold}
+use Rattle.node_rules.proofs.Places.{IsTold, unsent_sites}
 use Rattle.consumer_node.specs.Apps.{Meaning}
 use Rattle.consumer_node.specs.States.{ConsumerState, applied_of, applied}
 use Rattle.consumer_node.specs.Rules.{cut_to, undo, notice, on_learned}
@@ -81,19 +81,16 @@ module _ {A : Type 0} (app : Meaning A) where
 
       step_untold : Notices n None (consumer_step app n event)
       step_untold =
-          consumer_walk app (Notices n None) n event
+          consumer_walk app _ n event
+          (unsent_sites (Notices n None)
           (record {
             starts = (refl, (tt, refl));
             restarts = λ e. (refl, (tt, refl));
             learns = λ t entry why w. absurd (none t.state entry why);
-            sees = λ t from slot count entry why w. w;
-            ticks = λ t why w. w;
-            asks = λ t to why w. w;
-            says = λ t to what why w. w;
             shows = λ t mark why w. (w.0, shown_untold t.state t.marks mark why w.1);
             stores = λ t item own why w. w;
             changes = λ t own why w. w;
-          })
+          }))
 
   pub consumer_notices : (n : Node (ConsumerState A)) (event : Event) → HasNoticed n (consumer_step app n event)
   consumer_notices n event =

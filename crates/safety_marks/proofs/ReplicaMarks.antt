@@ -15,6 +15,7 @@ use Rattle.node_rules.specs.Nodes.{Node, agreed_by, has_slot}
 use Rattle.node_rules.specs.Turns.{Turn, started, me_of, own_of, agreed, count_known, send}
 use Rattle.node_rules.specs.Rules.{learned, learn, learn_next, with_seen, ask, decided}
 use Rattle.node_rules.proofs.Lists.{on_test, all_push, all_weaken}
+use Rattle.node_rules.proofs.Places.{unsent_sites}
 use Rattle.shard_node.specs.States.{ReplicaState, shard_of, log_of, durable_to}
 use Rattle.shard_node.specs.Learning.{confirm_from, covered_is_durable, notice, on_learned}
 use Rattle.shard_node.specs.Steps.{replica_step}
@@ -145,19 +146,16 @@ module _ (n : Node ReplicaState) (event : Event) (none : IsUntold n event) where
 
   step_untold : AllTell (replica_step n event)
   step_untold =
-      replica_walk AllTell n event
+      replica_walk _ n event
+      (unsent_sites AllTell
       (record {
         starts = tt;
         restarts = λ e. tt;
         learns = λ t entry why w. absurd (none t.state entry why);
-        sees = λ t from slot count entry why w. w;
-        ticks = λ t why w. w;
-        asks = λ t to why w. w;
-        says = λ t to what why w. w;
         shows = λ t mark why w. all_push (TellsOf t.state) t.marks mark w (shown_tells t.state mark why);
         stores = λ t item own why w. stored_tells t.state item own t.marks why w;
         changes = λ t own why w. changed_tells t.state own t.marks why w;
-      })
+      }))
 
 -- ---- any step
 

@@ -16,7 +16,7 @@ use Rattle.node_rules.specs.Nodes.{Node, has_slot}
 use Rattle.node_rules.specs.Turns.{Turn, started, agreed, count_known, send}
 use Rattle.node_rules.specs.Rules.{learned, learn, learn_next, with_seen, ask, decided}
 use Rattle.node_rules.proofs.Lists.{on_test}
-use Rattle.node_rules.proofs.Places.{IsTold}
+use Rattle.node_rules.proofs.Places.{IsTold, unsent_sites}
 use Rattle.shard_node.specs.States.{ReplicaState, shard_of, covered_of}
 use Rattle.shard_node.specs.Learning.{confirm, confirm_from, covered_is_durable, notice, on_learned}
 use Rattle.shard_node.specs.Steps.{replica_step}
@@ -109,19 +109,16 @@ module _ (n : Node ReplicaState) where
 
     step_untold : Notices n None (replica_step n event)
     step_untold =
-        replica_walk (Notices n None) n event
+        replica_walk _ n event
+        (unsent_sites (Notices n None)
         (record {
           starts = (refl, (tt, refl));
           restarts = λ e. (refl, (tt, refl));
           learns = λ t entry why w. absurd (none t.state entry why);
-          sees = λ t from slot count entry why w. w;
-          ticks = λ t why w. w;
-          asks = λ t to why w. w;
-          says = λ t to what why w. w;
           shows = λ t mark why w. (w.0, shown_untold t.state t.marks mark why w.1);
           stores = λ t item own why w. w;
           changes = λ t own why w. w;
-        })
+        }))
 
 pub replica_notices : (n : Node ReplicaState) (event : Event) → HasNoticed n (replica_step n event)
 replica_notices n event =
