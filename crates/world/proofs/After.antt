@@ -1,7 +1,7 @@
 -- What an entry leaves of each node.
 use Rattle.std.proofs.Common.{◌≡◌, true, false, ◌∷◌, refl, ap}
-use Rattle.world.specs.Names.{same_node, IsValidConfig, IsNodeOf, Past, Node, sequencer_step, replica_step, client_step, any_meaning, consumer_step, NodeId}
-use Rattle.world.specs.Names.{Config, Event, HistoryEntry, IsPastOf}
+use Rattle.world.specs.inside.Names.{same_node, IsValidConfig, IsNodeOf, Past, Node, sequencer_step, replica_step, client_step, any_meaning, consumer_step, NodeId}
+use Rattle.world.specs.inside.Names.{Config, Event, HistoryEntry, IsPastOf}
 use Rattle.app_law.specs.declared.any_app.AnyApp.{AnyApp}
 use Rattle.seq_node.specs.States.{SequencerState}
 use Rattle.seq_node.specs.Restart as sequencer

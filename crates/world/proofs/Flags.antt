@@ -3,7 +3,7 @@ use Rattle.std.proofs.Common.{◌≡◌, ℕ, zero, suc, ◌+◌, ◌<◌, ◌�
 use Rattle.std.specs.List.{slice_get, position_from}
 use Rattle.std.proofs.lemmas.List.{length-append}
 use Rattle.fix_ante.proofs.Entries.{slice_get-append_left}
-use Rattle.world.specs.Outboxes.{AreSettledBelow}
+use Rattle.world.specs.inside.Outboxes.{AreSettledBelow}
 
 -- with more flags
 pub still_below : (next : ℕ) (flags later more : List Bool) → later ≡ flags ++ more → next ≤ length flags → AreSettledBelow next flags

@@ -4,7 +4,7 @@ use Rattle.std.specs.Prelude.{slice_set, IsSomeAnd}
 use Rattle.std.specs.List.{slice_get}
 use Rattle.std.proofs.lemmas.Option.{slice_get_within, slice_get_read, get_or_from_slice_get}
 use Rattle.std.proofs.lemmas.List.{length-append, length-replicate, reverse-append}
-use Rattle.world.specs.Names.{nodes_of, step_at, entry_made, rank_of, Parts, AreParts, shown_by}
+use Rattle.world.specs.inside.Names.{nodes_of, step_at, entry_made, rank_of, Parts, AreParts, shown_by}
 use Rattle.msg_wire.specs.Valid.{IsValidConfig, IsValidMessage}
 use Rattle.msg_wire.specs.Steps.{AreValidMessages, IsValidStep}
 use Rattle.net_model.specs.Pasts.{Past, past_of, sent}
@@ -15,7 +15,7 @@ use Rattle.runs.specs.Names.{NodeId, Config, Message, Item, Event, Step, History
 use Rattle.runs.specs.Names.nodes
 use Rattle.runs.specs.Names.events
 use Rattle.world.specs.AnyNodes.{fresh_any, gives_any, leaves_any, is_spent_any, node_after}
-use Rattle.world.specs.Players.{PlayerState, happens, IsPlayerOf, CanTake}
+use Rattle.world.specs.inside.PlayerSteps.{PlayerState, happens, IsPlayerOf, CanTake}
 use Rattle.world.proofs.Lists.{map_same}
 use Rattle.runs.proofs.SameNodes.{node_itself}
 use Rattle.world.proofs.After.{gives_after, ready_after}

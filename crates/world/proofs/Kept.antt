@@ -7,13 +7,13 @@ use Rattle.std.proofs.lemmas.Bool.{eqb-true, eq-eqb, ne_eqb, or_cases, or_left, 
 use Rattle.std.proofs.lemmas.List.{length-append}
 use Rattle.std.proofs.lemmas.List.FromFn.{length-range_with_len, get_or-range_with_len}
 use Rattle.std.proofs.lemmas.Option.{slice_get_within, slice_get-get_or, get_or_from_slice_get}
-use Rattle.world.specs.Names.{Past, sent, nodes_of, PlayError, NodeId, Config, Message, Event, Input, HistoryEntry}
+use Rattle.world.specs.inside.Names.{Past, sent, nodes_of, PlayError, NodeId, Config, Message, Event, Input, HistoryEntry}
 use Rattle.world.specs.declared.errors.PlayError.TheVariants.{NoMessage}
 use Rattle.runs.specs.Names.nodes
 use Rattle.runs.specs.Names.events
 use Rattle.runs.specs.Names.inputs
 use Rattle.world.specs.Playing.{Playing, nothing_played, entry_made, happen, settle, deliver, next_open, tick_next, drain_once, drained, played, length_fault, input_fault}
-use Rattle.world.specs.Players.{PlayerState, is_settled, flags_of, kept_of, happens, settles, delivers, ticks_next, drains_once, drains, plays, IsSentBefore}
+use Rattle.world.specs.inside.PlayerSteps.{PlayerState, is_settled, flags_of, kept_of, happens, settles, delivers, ticks_next, drains_once, drains, plays, IsSentBefore}
 use Rattle.world.proofs.Lists.{set_map, flags_more, first_unset}
 
 -- the settled messages were sent

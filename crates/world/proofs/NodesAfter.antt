@@ -5,7 +5,7 @@ use Rattle.std.specs.List.{slice_get}
 use Rattle.std.specs.Option.{option_map}
 use Rattle.std.proofs.lemmas.Bool.{cases_Bool}
 use Rattle.std.proofs.lemmas.Option.{slice_get-map}
-use Rattle.world.specs.Names.{same_node, nodes_of, IsValidConfig, IsNodeOf, Past, NodeId, Config, HistoryEntry, IsPastOf, leaves_any, node_after, rank_of}
+use Rattle.world.specs.inside.Names.{same_node, nodes_of, IsValidConfig, IsNodeOf, Past, NodeId, Config, HistoryEntry, IsPastOf, leaves_any, node_after, rank_of}
 use Rattle.runs.proofs.SameNodes.{same_node_is}
 use Rattle.world.proofs.Lists.{set_map}
 use Rattle.world.proofs.NodePlaces.{place-there, place-only}

@@ -3,10 +3,10 @@ use Rattle.std.proofs.Common.{◌≡◌, ℕ, ◌+◌, ◌<◌, List, ◌∷◌,
 use Rattle.std.specs.Option.{option_or}
 use Rattle.std.proofs.lemmas.List.{drop_more}
 use Rattle.std.proofs.lemmas.List.Sums.{fold_more}
-use Rattle.world.specs.Names.{PlayError, Config, Input}
+use Rattle.world.specs.inside.Names.{PlayError, Config, Input}
 use Rattle.world.specs.declared.errors.PlayError.TheVariants as faults
 use Rattle.world.specs.Playing.{Playing, nothing_played, played, played_all, input_fault, played_unless, fault_from, play_fault}
-use Rattle.world.specs.Players.{PlayerState, played_of, plays}
+use Rattle.world.specs.inside.PlayerSteps.{PlayerState, played_of, plays}
 use Rattle.world.proofs.Kept.{Keeps, keeps_played, sent_before}
 
 -- the inputs below a place are played and none of them is refused; whether one is, the others tell

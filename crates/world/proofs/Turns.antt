@@ -5,7 +5,7 @@ use Rattle.std.specs.List.{slice_get}
 use Rattle.std.specs.Option.{option_map_or}
 use Rattle.std.proofs.lemmas.Option.{slice_get_read}
 use Rattle.std.proofs.lemmas.Result.{IfOk-weaker}
-use Rattle.world.specs.Names.{nodes_of, NodeId, Parts, AreParts, shown_by, PlayerState, happens, ticks_next}
+use Rattle.world.specs.inside.Names.{nodes_of, NodeId, Parts, AreParts, shown_by, PlayerState, happens, ticks_next}
 use Rattle.runs.specs.Names.events
 
 -- whose turn it is, by the parts of a player

@@ -2,8 +2,8 @@
 use Rattle.std.proofs.Common.{◌<◌, Bool, true, false, List, [], ◌∷◌, ◌++◌, refl, sym, subst}
 use Rattle.std.specs.List.{AllByRecursion}
 use Rattle.std.proofs.lemmas.List.Elements.{All-from_recursion, All-contains}
-use Rattle.world.specs.Names.{same_node, Past, sent, Node, sequencer_step, replica_step, client_step, any_meaning, consumer_step, NodeId, Config, Item, Event}
-use Rattle.world.specs.Names.{step_at}
+use Rattle.world.specs.inside.Names.{same_node, Past, sent, Node, sequencer_step, replica_step, client_step, any_meaning, consumer_step, NodeId, Config, Item, Event}
+use Rattle.world.specs.inside.Names.{step_at}
 use Rattle.msg_wire.specs.Valid.{IsValidConfig, IsNodeOf, IsValidEvent, IsCommandOf}
 use Rattle.net_model.specs.Tables.{Progress, progress_of}
 use Rattle.node_rules.specs.Names.{Command}
@@ -18,7 +18,7 @@ use Rattle.consumer_node.specs.Restart as consumer
 use Rattle.runs.specs.Names.nodes
 use Rattle.runs.specs.Names.events
 use Rattle.runs.specs.Runs.{Comes, IsPastOf}
-use Rattle.world.specs.Players.{IsCommandAt, AreCommandsOf}
+use Rattle.world.specs.inside.PlayerSteps.{IsCommandAt, AreCommandsOf}
 use Rattle.runs.proofs.InPlace.{with_event, events_of, table_of, RestartsInPlace, progress_is}
 use Rattle.runs.proofs.Restarts.{events_valid, sequencer_in_place, replica_in_place, client_in_place, consumer_in_place}
 use Rattle.node_rules.proofs.Within.{CommandHasNodes, GoesWithin, TakesWithin, StaysWithin, IsWithin}

@@ -1,9 +1,5 @@
 pub mod Playing
 pub mod FirstScripts
 pub mod AnyNodes
-pub mod Places
-pub mod Outboxes
-pub mod Players
-pub mod Insides
 pub mod PlayErrors
-pub mod Names
+pub mod inside

@@ -7,7 +7,7 @@ ghost use Rattle.msg_wire.specs.Valid.{IsValidConfig, IsNodeOf, IsValidMessage, 
 ghost use Rattle.node_rules.specs.Turns.{empty_step};
 ghost use Rattle.world.specs.AnyNodes.{fresh_any, gives_any, leaves_any, is_spent_any};
 ghost use Rattle.runs.specs.Names.events;
-ghost use Rattle.world.specs.Places.{rank_of};
+ghost use Rattle.world.specs.inside.Places.{rank_of};
 
 use crate::any_node::AnyNode;
 use msg_wire::{Config, Event, Message, Step};

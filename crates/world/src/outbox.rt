@@ -23,7 +23,7 @@ impl Model for Outbox {
     ghost Value = { List Bool };
 
     ghost use Rattle.std.specs.Prelude.{◌≤◌, length};
-    ghost use Rattle.world.specs.Outboxes.{AreSettledBelow};
+    ghost use Rattle.world.specs.inside.Outboxes.{AreSettledBelow};
 
     ghost view = { λ o. o.settled.items };
 

@@ -7,7 +7,7 @@ ghost use Rattle.msg_wire.specs.Valid.{IsValidConfig, IsBody, IsSequencerOf, IsC
 ghost use Rattle.runs.specs.Names.nodes;
 ghost use Rattle.runs.specs.Names.events;
 ghost use Rattle.world.specs.Playing.{nothing_played};
-ghost use Rattle.world.specs.Players.{kept_of, happens, settles, delivers, ticks_next, drains_once, drains, plays, IsSentBefore, CanTake};
+ghost use Rattle.world.specs.inside.PlayerSteps.{kept_of, happens, settles, delivers, ticks_next, drains_once, drains, plays, IsSentBefore, CanTake};
 ghost use Rattle.runs.specs.Runs.{IsRun};
 
 use crate::any_node::AnyNode;
@@ -51,11 +51,11 @@ struct Parts {
 }
 
 impl Model for Player {
-    ghost use Rattle.world.specs.Players.{PlayerState};
+    ghost use Rattle.world.specs.inside.PlayerSteps.{PlayerState};
 
     ghost Value = { PlayerState };
 
-    ghost use Rattle.world.specs.Insides.{player_of, IsPlayer};
+    ghost use Rattle.world.specs.inside.Kept.{player_of, IsPlayer};
 
     ghost view = { player_of };
 

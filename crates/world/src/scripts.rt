@@ -5,7 +5,7 @@ ghost use Rattle.msg_wire.specs.Inputs.{IsInputOf};
 ghost use Rattle.msg_wire.specs.Steps.{AreValidMessages};
 ghost use Rattle.msg_wire.specs.Valid.{IsValidConfig};
 ghost use Rattle.world.specs.Playing.{history_of, play_fault, input_fault, message_fault, length_fault, entries_of};
-ghost use Rattle.world.specs.Players.{played_of};
+ghost use Rattle.world.specs.inside.PlayerSteps.{played_of};
 ghost use Rattle.world.specs.PlayErrors.{IsRefusal};
 ghost use Rattle.runs.specs.Runs.{IsRun};
 

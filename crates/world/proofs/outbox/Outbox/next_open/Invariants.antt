@@ -1,5 +1,5 @@
 use Rattle.std.proofs.Common.{◌≡◌, ◌-◌, ◌≤◌, length}
-use Rattle.world.specs.Outboxes.{AreSettledBelow}
+use Rattle.world.specs.inside.Outboxes.{AreSettledBelow}
 use Rattle.world.proofs.outbox.Outbox.next_open.Given as goal
 
 abbrev pub invariant-loop-self : goal.invariant-loop-self

@@ -1,5 +1,5 @@
 use Rattle.std.proofs.Common.{ℕ, ◌≤◌, length, false, replicate, sym, subst}
-use Rattle.world.specs.Outboxes.{AreSettledBelow}
+use Rattle.world.specs.inside.Outboxes.{AreSettledBelow}
 use Rattle.world.proofs.Lists.{one_clear_more}
 use Rattle.world.proofs.Flags.{still_below, longer}
 use Rattle.world.proofs.outbox.Outbox.push.Goals as goal

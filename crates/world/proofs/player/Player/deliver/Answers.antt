@@ -6,7 +6,7 @@ use Rattle.std.proofs.lemmas.Result.{IfOk-weaker}
 use Rattle.net_model.specs.Pasts.{sent}
 use Rattle.runs.specs.Names.{Message}
 use Rattle.runs.specs.Names.events
-use Rattle.world.specs.Players.{PlayerState, happens, settles, delivers}
+use Rattle.world.specs.inside.PlayerSteps.{PlayerState, happens, settles, delivers}
 use Rattle.world.proofs.Lists.{none_there}
 use Rattle.world.proofs.player.Player.deliver.Goals as goal
 

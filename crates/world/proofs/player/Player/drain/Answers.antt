@@ -1,5 +1,5 @@
 use Rattle.std.proofs.Common.{◌≡◌, ℕ, suc, ◌+◌, ap, ◌∙◌, arith}
-use Rattle.world.specs.Players.{drains_once, drains}
+use Rattle.world.specs.inside.PlayerSteps.{drains_once, drains}
 use Rattle.world.proofs.player.Player.drain.Goals as goal
 
 pub loop-preserved : goal.loop-preserved

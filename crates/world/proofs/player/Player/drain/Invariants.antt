@@ -1,5 +1,5 @@
 use Rattle.std.proofs.Common.{◌≡◌}
-use Rattle.world.specs.Players.{drains}
+use Rattle.world.specs.inside.PlayerSteps.{drains}
 use Rattle.world.proofs.player.Player.drain.Given as goal
 
 abbrev pub invariant-loop : goal.invariant-loop

@@ -1,5 +1,5 @@
 use Rattle.std.proofs.Common.{sym, subst, arith}
-use Rattle.world.specs.Insides.{AreParts}
+use Rattle.world.specs.inside.Kept.{AreParts}
 use Rattle.world.proofs.Flags.{open_within}
 use Rattle.world.proofs.player.Player.drain_once.Goals as goal
 

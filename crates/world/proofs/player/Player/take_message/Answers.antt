@@ -4,7 +4,7 @@ use Rattle.std.proofs.lemmas.Option.{same_Some}
 use Rattle.net_model.specs.Pasts.{sent}
 use Rattle.runs.specs.Names.{Message}
 use Rattle.runs.specs.Names.events
-use Rattle.world.specs.Players.{PlayerState, happens}
+use Rattle.world.specs.inside.PlayerSteps.{PlayerState, happens}
 use Rattle.world.proofs.Happening.{begins_message, ready_there, has_happened, emptied}
 use Rattle.world.proofs.player.Player.take_message.Goals as goal
 

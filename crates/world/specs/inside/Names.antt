@@ -12,9 +12,9 @@ pub use Rattle.runs.specs.Kinds.{step_at}
 pub use Rattle.runs.specs.Names.{Config, Event, HistoryEntry, Input, Item, Message, NodeId}
 pub use Rattle.runs.specs.Runs.{IsPastOf}
 pub use Rattle.world.specs.AnyNodes.{leaves_any, node_after}
-pub use Rattle.world.specs.Insides.{AreParts, shown_by}
-pub use Rattle.world.specs.Places.{rank_of}
-pub use Rattle.world.specs.Players.{PlayerState, happens, ticks_next}
+pub use Rattle.world.specs.inside.Kept.{AreParts, shown_by}
+pub use Rattle.world.specs.inside.Places.{rank_of}
+pub use Rattle.world.specs.inside.PlayerSteps.{PlayerState, happens, ticks_next}
 pub use Rattle.world.specs.Playing.{entry_made}
 pub use Rattle.world.specs.declared.errors.PlayError.{PlayError}
 pub use Rattle.world.specs.declared.player.Parts.{Parts}

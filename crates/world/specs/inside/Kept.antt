@@ -5,7 +5,7 @@ use Rattle.msg_wire.specs.Nodes.{nodes_of}
 use Rattle.node_rules.specs.Turns.{empty_step}
 use Rattle.world.specs.declared.player.Parts.{Parts}
 use Rattle.world.specs.declared.player.Player.TheInside.{Inside}
-use Rattle.world.specs.Players.{PlayerState, IsPlayerOf}
+use Rattle.world.specs.inside.PlayerSteps.{PlayerState, IsPlayerOf}
 
 abbrev pub shown_by : Parts → PlayerState
 shown_by p = record { cfg = p.cfg; past = past_of p.history; settled = p.outbox; turn = p.turn }

@@ -1,0 +1,6 @@
+-- What only the contracts of this crate's private functions, its invariants and its proofs cite.
+pub mod Places
+pub mod Outboxes
+pub mod PlayerSteps
+pub mod Kept
+pub mod Names
