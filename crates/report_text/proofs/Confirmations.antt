@@ -8,7 +8,7 @@ use Rattle.runs.specs.Names.{Record, Mark}
 use Rattle.runs.specs.Names.marks
 use Rattle.runs.specs.Marks.{confirmation_in, confirmations}
 use Rattle.report_text.specs.Positions.{records_at, end_confirmed, same_record, differ, log_line, line_of_position, log_lines, count_differing}
-use Rattle.report_text.specs.Confirming.{Confirmed, with_known, with_confirmed, with_mark, with_marks, confirmed_lines, differing}
+use Rattle.report_text.specs.inside.Confirming.{Confirmed, with_known, with_confirmed, with_mark, with_marks, confirmed_lines, differing}
 use Rattle.report_text.proofs.Keyed.{find, RisesFrom, RisesFrom-insert, find-insert, same_number, entry_for, entries_of_range, flat_map_for, count_by_for, flat_map_same, count_by_same, flipped}
 
 -- what is known after one more record, and after more of them

@@ -13,7 +13,7 @@ use Rattle.runs.specs.Names.nodes
 use Rattle.runs.specs.Names.marks
 use Rattle.runs.specs.Marks.{confirmation_in, confirmations, notice_in, notices, output_in, outputs, after_mark, applied_by}
 use Rattle.report_text.specs.Consumers.{undone_in, count_undone, out_line, is_apply_at, is_applied_early, early_in, early_among, count_early, lines_of_consumer}
-use Rattle.report_text.specs.Consuming.{Consumed, nothing_consumed, applied_at_after, early_after, with_own_mark, with_own_marks, consumed_lines}
+use Rattle.report_text.specs.inside.Consuming.{Consumed, nothing_consumed, applied_at_after, early_after, with_own_mark, with_own_marks, consumed_lines}
 use Rattle.report_text.proofs.Keyed.{find, find-insert, flipped, or-none, or-assoc}
 
 -- ---- the last place at which a test holds, places counted from one on

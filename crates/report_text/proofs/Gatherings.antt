@@ -19,11 +19,11 @@ use Rattle.report_text.specs.Positions.{log_lines, count_differing, differ_line}
 use Rattle.report_text.specs.Consumers.{lines_of_consumer, consumer_lines}
 use Rattle.report_text.specs.Clients.{lines_of_client, client_lines}
 use Rattle.report_text.specs.Report.{head_lines, report_of}
-use Rattle.report_text.specs.Telling.{with_messages, IsValidTold, told_lines}
-use Rattle.report_text.specs.Confirming.{with_marks, confirmed_lines, differing}
-use Rattle.report_text.specs.Consuming.{Consumed, nothing_consumed, with_own_marks, consumed_lines}
-use Rattle.report_text.specs.Submitting.{Submitted, nothing_submitted, with_own_entry, submitted_lines}
-use Rattle.report_text.specs.Gathering.{Gathered, before_entries, changed_at, consumers_after, clients_after, with_entry, gathered_of, numbered_lines, gathered_lines}
+use Rattle.report_text.specs.inside.Telling.{with_messages, IsValidTold, told_lines}
+use Rattle.report_text.specs.inside.Confirming.{with_marks, confirmed_lines, differing}
+use Rattle.report_text.specs.inside.Consuming.{Consumed, nothing_consumed, with_own_marks, consumed_lines}
+use Rattle.report_text.specs.inside.Submitting.{Submitted, nothing_submitted, with_own_entry, submitted_lines}
+use Rattle.report_text.specs.inside.Gathering.{Gathered, before_entries, changed_at, consumers_after, clients_after, with_entry, gathered_of, numbered_lines, gathered_lines}
 use Rattle.report_text.proofs.Keyed.{itself}
 use Rattle.report_text.proofs.Tellings.{told_lines-is, valid-messages}
 use Rattle.report_text.proofs.Confirmations.{confirmed_lines-is, differing-is}

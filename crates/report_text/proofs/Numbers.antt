@@ -6,7 +6,7 @@ use Rattle.std.specs.Ordering.{nat_cmp, match_ordering}
 use Rattle.std.specs.declared.cmp.Ordering.TheVariants.{Less, Equal, Greater}
 use Rattle.std.proofs.lemmas.Bool.Decides.{nat_tests}
 use Rattle.std.proofs.lemmas.Cmp.{ranked}
-use Rattle.report_text.specs.Numbers.{numbered, AreFrom}
+use Rattle.report_text.specs.inside.Numbers.{numbered, AreFrom}
 use Rattle.report_text.proofs.Keyed.{find, at_is, itself, not_same_above}
 
 cmp_same : (q : ℕ) → nat_cmp q q ≡ Equal

@@ -6,8 +6,8 @@ use Rattle.std.specs.Ordering.{nat_cmp}
 use Rattle.runs.specs.Names.{Entry, Record}
 use Rattle.report_text.specs.declared.positions.Confirmed.{Confirmed as Found}
 use Rattle.report_text.specs.Positions.{same_record}
-use Rattle.report_text.specs.Telling.{Told, with_told}
-use Rattle.report_text.specs.Confirming.{Confirmed, with_known, with_confirmed}
+use Rattle.report_text.specs.inside.Telling.{Told, with_told}
+use Rattle.report_text.specs.inside.Confirming.{Confirmed, with_known, with_confirmed}
 use Rattle.report_text.proofs.Keyed.{find, seen, find-seen, insert-seen}
 
 some-map : {X Y : Type 0} (f : X → Y) (o : Option X) → is_some (option_map f o) ≡ is_some o

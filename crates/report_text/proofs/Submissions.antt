@@ -7,7 +7,7 @@ use Rattle.runs.specs.Names.{NodeId, HistoryEntry}
 use Rattle.runs.specs.Names.nodes
 use Rattle.runs.specs.Marks.{acks, ack_in}
 use Rattle.report_text.specs.Clients.{lines_of_client}
-use Rattle.report_text.specs.Submitting.{Submitted, nothing_submitted, with_own_entry, submitted_lines}
+use Rattle.report_text.specs.inside.Submitting.{Submitted, nothing_submitted, with_own_entry, submitted_lines}
 
 pub record IsSubmitted (node : NodeId) (past : Past) (s : Submitted) : Type 0 where
   pub bodies : s.bodies ≡ submissions_of node past

@@ -20,7 +20,7 @@ use Rattle.runs.specs.Names.entries
 use Rattle.runs.specs.Names.whats
 use Rattle.runs.specs.Known.{agreed_after}
 use Rattle.report_text.specs.Slots.{told_by, first_told, end_told_by, end_told, told_below, is_void, slot_line, line_of_slot, slot_lines}
-use Rattle.report_text.specs.Telling.{Told, with_told, with_what, with_message, with_messages, IsValidTold, is_void_after, after_told, told_lines}
+use Rattle.report_text.specs.inside.Telling.{Told, with_told, with_what, with_message, with_messages, IsValidTold, is_void_after, after_told, told_lines}
 use Rattle.report_text.proofs.Keyed.{find, RisesFrom, RisesFrom-insert, find-insert, find-below, at_is, itself, same_number, not_same_above, all-insert, flipped, or-none, or-assoc}
 
 -- ---- the first entry of each slot

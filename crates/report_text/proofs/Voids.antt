@@ -7,7 +7,7 @@ use Rattle.cut_core.specs.Effects.{cut_effect, effect_where_fit, void_or, effect
 use Rattle.cut_core.specs.Reasons.{fault_of}
 use Rattle.runs.specs.Names.{Entry}
 use Rattle.runs.specs.Names.entries
-use Rattle.report_text.specs.Telling.{is_void_effect}
+use Rattle.report_text.specs.inside.Telling.{is_void_effect}
 
 fits : (a : Agreement) (entry : Entry) → is_void_effect (effect_where_fit a entry) ≡ false
 fits a entries.Nothing = refl

@@ -5,10 +5,4 @@ pub mod Consumers
 pub mod Clients
 pub mod Report
 pub mod Worked
-pub mod Telling
-pub mod Confirming
-pub mod Consuming
-pub mod Insides
-pub mod Numbers
-pub mod Submitting
-pub mod Gathering
+pub mod inside

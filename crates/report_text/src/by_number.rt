@@ -31,7 +31,7 @@ impl<V> Model for ByNumber<V> {
 
     ghost Value = { List (ℕ × V) };
 
-    ghost use Rattle.report_text.specs.Numbers.{by_number, IsByNumber};
+    ghost use Rattle.report_text.specs.inside.Numbers.{by_number, IsByNumber};
 
     ghost view = { by_number };
 

@@ -3,7 +3,7 @@
 ghost use Rattle.std.specs.Prelude.{◌≡◌, ◌++◌, OnOk};
 ghost use Rattle.runs.specs.Marks.{acks};
 ghost use Rattle.report_text.specs.Clients.{client_line, ack_line};
-ghost use Rattle.report_text.specs.Submitting.{nothing_submitted, with_own_entry, submitted_lines};
+ghost use Rattle.report_text.specs.inside.Submitting.{nothing_submitted, with_own_entry, submitted_lines};
 
 use crate::text::{Put, put_counted};
 use msg_wire::Mark;
@@ -24,7 +24,7 @@ pub struct ClientMarks<'a> {
 
 impl<'a> Model for ClientMarks<'a> {
     ghost use Rattle.std.specs.Prelude.{map};
-    ghost use Rattle.report_text.specs.Submitting.{Submitted};
+    ghost use Rattle.report_text.specs.inside.Submitting.{Submitted};
 
     ghost Value = { Submitted };
 

@@ -4,7 +4,7 @@ ghost use Rattle.std.specs.Prelude.{◌≡◌, ◌++◌, map, flat_map, OnOk};
 ghost use Rattle.app_law.specs.AnyApps.{any_fresh, any_next, any_shown};
 ghost use Rattle.app_law.specs.Folds.{shown_after};
 ghost use Rattle.report_text.specs.Consumers.{consumer_line, notice_line, out_line, state_line};
-ghost use Rattle.report_text.specs.Consuming.{list_counts, other_counts};
+ghost use Rattle.report_text.specs.inside.Consuming.{list_counts, other_counts};
 
 use crate::text::{Put, put_counted};
 use app_law::{AnyApp, App};

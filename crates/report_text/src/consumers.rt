@@ -1,7 +1,7 @@
 //! What a consumer showed.
 
 ghost use Rattle.std.specs.Prelude.{◌≡◌, ◌+◌, ◌-◌, ◌++◌, map, take, length, OnOk};
-ghost use Rattle.report_text.specs.Consuming.{nothing_consumed, is_applied_before, with_own_mark, with_own_marks, consumed_lines};
+ghost use Rattle.report_text.specs.inside.Consuming.{nothing_consumed, is_applied_before, with_own_mark, with_own_marks, consumed_lines};
 
 use crate::by_number::ByNumber;
 use crate::consumer_lines::{Counts, put_counts, put_notices, put_output, put_state, shown_after};
@@ -34,11 +34,11 @@ pub struct ConsumerMarks<'a> {
 }
 
 impl<'a> Model for ConsumerMarks<'a> {
-    ghost use Rattle.report_text.specs.Consuming.{Consumed};
+    ghost use Rattle.report_text.specs.inside.Consuming.{Consumed};
 
     ghost Value = { Consumed };
 
-    ghost use Rattle.report_text.specs.Insides.{consumed_of, AreWithinMarks};
+    ghost use Rattle.report_text.specs.inside.Kept.{consumed_of, AreWithinMarks};
 
     ghost view = { consumed_of };
 

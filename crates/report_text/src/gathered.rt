@@ -4,12 +4,12 @@ ghost use Rattle.std.specs.Prelude.{◌≡◌, ◌++◌, replicate, slice_get, I
 ghost use Rattle.std.specs.Option.{option_map_or};
 ghost use Rattle.std.specs.List.{AllByRecursion};
 ghost use Rattle.msg_wire.specs.Valid.{IsValidConfig};
-ghost use Rattle.report_text.specs.Telling.{IsValidTold};
-ghost use Rattle.report_text.specs.Consuming.{nothing_consumed, consumed_lines, with_own_marks};
-ghost use Rattle.report_text.specs.Submitting.{nothing_submitted, submitted_lines, with_own_entry};
+ghost use Rattle.report_text.specs.inside.Telling.{IsValidTold};
+ghost use Rattle.report_text.specs.inside.Consuming.{nothing_consumed, consumed_lines, with_own_marks};
+ghost use Rattle.report_text.specs.inside.Submitting.{nothing_submitted, submitted_lines, with_own_entry};
 ghost use Rattle.report_text.specs.Positions.{differ_line};
 ghost use Rattle.report_text.specs.Report.{head_lines};
-ghost use Rattle.report_text.specs.Gathering.{changed_at, with_entry, gathered_of, numbered_lines, gathered_lines};
+ghost use Rattle.report_text.specs.inside.Gathering.{changed_at, with_entry, gathered_of, numbered_lines, gathered_lines};
 
 use crate::clients::ClientMarks;
 use crate::consumers::ConsumerMarks;
@@ -35,7 +35,7 @@ pub struct Gathered<'a> {
 }
 
 impl<'a> Model for Gathered<'a> {
-    ghost use Rattle.report_text.specs.Gathering.{Gathered};
+    ghost use Rattle.report_text.specs.inside.Gathering.{Gathered};
 
     ghost Value = { Gathered };
 

@@ -4,7 +4,7 @@ ghost use Rattle.std.specs.Prelude.{◌≡◌, ◌++◌, [], IfOk, OnOk};
 ghost use Rattle.std.specs.BTreeMap.{insert_entry};
 ghost use Rattle.std.specs.Ordering.{nat_cmp};
 ghost use Rattle.report_text.specs.Positions.{same_record, log_line};
-ghost use Rattle.report_text.specs.Confirming.{with_confirmed, with_marks, confirmed_lines, differing};
+ghost use Rattle.report_text.specs.inside.Confirming.{with_confirmed, with_marks, confirmed_lines, differing};
 
 use crate::by_number::ByNumber;
 use crate::text::{Put, put_counted};

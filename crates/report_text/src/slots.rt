@@ -7,7 +7,7 @@ ghost use Rattle.cut_core.specs.Agreements.{agreement_from};
 ghost use Rattle.cut_core.specs.Fold.{HasValidTable};
 ghost use Rattle.node_rules.specs.Nodes.{first_window};
 ghost use Rattle.report_text.specs.Slots.{slot_line, entry_words, row_words};
-ghost use Rattle.report_text.specs.Telling.{with_told, with_messages, IsValidTold, is_void_after, after_told, told_lines, void_words, is_void_effect};
+ghost use Rattle.report_text.specs.inside.Telling.{with_told, with_messages, IsValidTold, is_void_after, after_told, told_lines, void_words, is_void_effect};
 
 use crate::by_number::ByNumber;
 use crate::text::{Put, put_counted};

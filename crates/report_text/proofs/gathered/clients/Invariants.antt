@@ -1,5 +1,5 @@
 use Rattle.std.proofs.Common.{◌≡◌, replicate}
-use Rattle.report_text.specs.Submitting.{nothing_submitted}
+use Rattle.report_text.specs.inside.Submitting.{nothing_submitted}
 use Rattle.report_text.proofs.gathered.clients.Given as goal
 
 abbrev pub invariant-loop-number : goal.invariant-loop-number

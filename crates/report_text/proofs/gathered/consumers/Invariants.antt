@@ -1,5 +1,5 @@
 use Rattle.std.proofs.Common.{◌≡◌, replicate}
-use Rattle.report_text.specs.Consuming.{nothing_consumed}
+use Rattle.report_text.specs.inside.Consuming.{nothing_consumed}
 use Rattle.report_text.proofs.gathered.consumers.Given as goal
 
 abbrev pub invariant-loop-number : goal.invariant-loop-number

@@ -1,7 +1,7 @@
 use Rattle.std.proofs.Common.{◌≡◌, suc, ◌+◌, take, fold, slice_get, sym, ap, ◌∙◌, arith}
 use Rattle.std.specs.Option.{option_map_or}
 use Rattle.net_model.specs.Pasts.{past_of, sent, shown}
-use Rattle.report_text.specs.Gathering.{Gathered, before_entries, with_entry}
+use Rattle.report_text.specs.inside.Gathering.{Gathered, before_entries, with_entry}
 use Rattle.report_text.proofs.Gatherings.{fold_next}
 use Rattle.report_text.proofs.gathered.gather.Goals as goal
 

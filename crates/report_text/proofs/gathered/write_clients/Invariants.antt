@@ -1,6 +1,6 @@
 use Rattle.std.proofs.Common.{◌≡◌, ◌++◌, drop}
-use Rattle.report_text.specs.Submitting.{submitted_lines}
-use Rattle.report_text.specs.Gathering.{numbered_lines}
+use Rattle.report_text.specs.inside.Submitting.{submitted_lines}
+use Rattle.report_text.specs.inside.Gathering.{numbered_lines}
 use Rattle.report_text.proofs.gathered.write_clients.Given as goal
 
 abbrev pub invariant-loop-number : goal.invariant-loop-number

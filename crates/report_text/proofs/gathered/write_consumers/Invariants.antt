@@ -1,6 +1,6 @@
 use Rattle.std.proofs.Common.{◌≡◌, ◌++◌, drop}
-use Rattle.report_text.specs.Consuming.{consumed_lines}
-use Rattle.report_text.specs.Gathering.{numbered_lines}
+use Rattle.report_text.specs.inside.Consuming.{consumed_lines}
+use Rattle.report_text.specs.inside.Gathering.{numbered_lines}
 use Rattle.report_text.proofs.gathered.write_consumers.Given as goal
 
 abbrev pub invariant-loop-number : goal.invariant-loop-number

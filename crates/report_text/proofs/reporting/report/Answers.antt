@@ -1,7 +1,7 @@
 use Rattle.std.proofs.Common.{◌++◌, length, sym, ap, subst, ◌∙◌}
 use Rattle.std.specs.List.{AllByRecursion}
-use Rattle.report_text.specs.Telling.{IsValidTold}
-use Rattle.report_text.specs.Gathering.{Gathered, gathered_lines}
+use Rattle.report_text.specs.inside.Telling.{IsValidTold}
+use Rattle.report_text.specs.inside.Gathering.{Gathered, gathered_lines}
 use Rattle.report_text.proofs.Gatherings.{valid-told, gathered_lines-is}
 use Rattle.report_text.proofs.reporting.report.Goals as goal
 

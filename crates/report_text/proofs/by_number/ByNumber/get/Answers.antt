@@ -2,7 +2,7 @@ use Rattle.std.proofs.Common.{◌≡◌, ◌+◌, ◌<◌, ◌≤◌, ◌++◌, 
 use Rattle.std.specs.List.{slice_get}
 use Rattle.std.proofs.lemmas.Bool.Decides.{nat_tests}
 use Rattle.std.proofs.lemmas.Option.{slice_get_read}
-use Rattle.report_text.specs.Numbers.{numbered}
+use Rattle.report_text.specs.inside.Numbers.{numbered}
 use Rattle.report_text.proofs.Keyed.{find}
 use Rattle.report_text.proofs.Numbers.{find_first, find_rest}
 use Rattle.report_text.proofs.by_number.ByNumber.get.Goals as goal

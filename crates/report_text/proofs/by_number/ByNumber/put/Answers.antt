@@ -1,7 +1,7 @@
 use Rattle.std.proofs.Common.{◌≡◌, ◌+◌, ◌≤◌, [], ◌∷◌, ◌++◌, length, Result, Ok, Err, OnOk, refl, sym, ap, subst, ◌∙◌, arith}
 use Rattle.std.specs.BTreeMap.{insert_entry}
 use Rattle.std.specs.Ordering.{nat_cmp}
-use Rattle.report_text.specs.Numbers.{numbered, AreFrom}
+use Rattle.report_text.specs.inside.Numbers.{numbered, AreFrom}
 use Rattle.report_text.proofs.Keyed.{all-insert}
 use Rattle.report_text.proofs.Numbers.{put_first, put_rest, one_more, no_entries}
 use Rattle.report_text.proofs.by_number.ByNumber.put.Goals as goal

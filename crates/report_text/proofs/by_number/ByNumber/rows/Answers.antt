@@ -1,6 +1,6 @@
 use Rattle.std.proofs.Common.{◌≤◌, [], ◌∷◌, ◌++◌, length, ap, ◌∙◌, arith}
 use Rattle.std.proofs.lemmas.Option.{slice_get_read}
-use Rattle.report_text.specs.Numbers.{numbered}
+use Rattle.report_text.specs.inside.Numbers.{numbered}
 use Rattle.report_text.proofs.Numbers.{one_taken, all_taken}
 use Rattle.report_text.proofs.by_number.ByNumber.rows.Goals as goal
 

@@ -1,5 +1,5 @@
 use Rattle.std.proofs.Common.{◌≡◌, ◌++◌, take}
-use Rattle.report_text.specs.Numbers.{numbered}
+use Rattle.report_text.specs.inside.Numbers.{numbered}
 use Rattle.report_text.proofs.by_number.ByNumber.rows.Given as goal
 
 abbrev pub invariant-loop-number : goal.invariant-loop-number

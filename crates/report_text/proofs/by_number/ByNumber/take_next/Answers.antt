@@ -3,7 +3,7 @@ use Rattle.std.proofs.lemmas.List.Elements.{recursion_from_All}
 use Rattle.std.specs.Ordering.{nat_cmp}
 use Rattle.std.specs.declared.cmp.Ordering.TheVariants.{Less}
 use Rattle.std.specs.BTreeMap.{keys}
-use Rattle.report_text.specs.Numbers.{numbered, AreFrom}
+use Rattle.report_text.specs.inside.Numbers.{numbered, AreFrom}
 use Rattle.report_text.proofs.Numbers.{one_more, above, first_number}
 use Rattle.report_text.proofs.by_number.ByNumber.take_next.Goals as goal
 

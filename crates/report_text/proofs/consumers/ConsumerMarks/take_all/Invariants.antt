@@ -1,5 +1,5 @@
 use Rattle.std.proofs.Common.{◌≡◌, fold, take}
-use Rattle.report_text.specs.Consuming.{with_own_mark}
+use Rattle.report_text.specs.inside.Consuming.{with_own_mark}
 use Rattle.report_text.proofs.consumers.ConsumerMarks.take_all.Given as goal
 
 abbrev pub invariant-loop-mark : goal.invariant-loop-mark

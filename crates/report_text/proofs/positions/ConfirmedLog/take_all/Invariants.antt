@@ -1,5 +1,5 @@
 use Rattle.std.proofs.Common.{◌≡◌, take}
-use Rattle.report_text.specs.Confirming.{with_marks}
+use Rattle.report_text.specs.inside.Confirming.{with_marks}
 use Rattle.report_text.proofs.positions.ConfirmedLog.take_all.Given as goal
 
 abbrev pub invariant-loop-mark : goal.invariant-loop-mark

@@ -1,6 +1,6 @@
 use Rattle.std.proofs.Common.{◌≡◌, ◌++◌, map}
 use Rattle.std.specs.Vec.Iter.{into_iter_items}
-use Rattle.report_text.specs.Confirming.{confirmed_lines}
+use Rattle.report_text.specs.inside.Confirming.{confirmed_lines}
 use Rattle.report_text.proofs.positions.ConfirmedLog.write.Given as goal
 
 abbrev pub invariant-loop-position : goal.invariant-loop-position

@@ -1,5 +1,5 @@
 use Rattle.std.proofs.Common.{◌≡◌, take}
-use Rattle.report_text.specs.Telling.{with_messages}
+use Rattle.report_text.specs.inside.Telling.{with_messages}
 use Rattle.report_text.proofs.slots.ToldSlots.take_all.Given as goal
 
 abbrev pub invariant-loop-message : goal.invariant-loop-message

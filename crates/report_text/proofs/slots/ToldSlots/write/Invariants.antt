@@ -3,7 +3,7 @@ use Rattle.std.specs.List.{AllByRecursion}
 use Rattle.std.specs.Vec.Iter.{into_iter_items}
 use Rattle.cut_core.specs.Agreements.{agreement_from}
 use Rattle.node_rules.specs.Nodes.{first_window}
-use Rattle.report_text.specs.Telling.{IsValidTold, told_lines}
+use Rattle.report_text.specs.inside.Telling.{IsValidTold, told_lines}
 use Rattle.report_text.proofs.slots.ToldSlots.write.Given as goal
 
 abbrev pub invariant-loop-number : goal.invariant-loop-number

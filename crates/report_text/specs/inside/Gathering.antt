@@ -8,10 +8,10 @@ use Rattle.runs.specs.Names.{NodeId, Config, Message, Mark, HistoryEntry}
 use Rattle.runs.specs.Names.nodes
 use Rattle.report_text.specs.Positions.{differ_line}
 use Rattle.report_text.specs.Report.{head_lines}
-use Rattle.report_text.specs.Telling.{Told, with_messages, told_lines}
-use Rattle.report_text.specs.Confirming.{Confirmed, with_marks, confirmed_lines, differing}
-use Rattle.report_text.specs.Consuming.{Consumed, nothing_consumed, with_own_marks, consumed_lines}
-use Rattle.report_text.specs.Submitting.{Submitted, nothing_submitted, with_own_entry, submitted_lines}
+use Rattle.report_text.specs.inside.Telling.{Told, with_messages, told_lines}
+use Rattle.report_text.specs.inside.Confirming.{Confirmed, with_marks, confirmed_lines, differing}
+use Rattle.report_text.specs.inside.Consuming.{Consumed, nothing_consumed, with_own_marks, consumed_lines}
+use Rattle.report_text.specs.inside.Submitting.{Submitted, nothing_submitted, with_own_entry, submitted_lines}
 
 -- what was told and confirmed, and what each consumer and each client showed, by number
 pub record Gathered : Type 0 where

@@ -1,7 +1,7 @@
 -- How what is gathered of a consumer is seen.
 use Rattle.std.specs.Prelude.{◌+◌, ◌≤◌, map, length}
 use Rattle.report_text.specs.declared.consumers.ConsumerMarks.TheInside.{Inside}
-use Rattle.report_text.specs.Consuming.{Consumed}
+use Rattle.report_text.specs.inside.Consuming.{Consumed}
 
 abbrev pub consumed_of : Inside → Consumed
 consumed_of c = record {
