@@ -1,6 +1,5 @@
-pub mod Input
-pub mod Output
 pub mod Refusals
 pub mod Plays
 pub mod Answers
 pub mod Completeness
+pub mod inside

@@ -2,7 +2,7 @@
 
 ghost use Rattle.std.specs.Prelude.{◌≡◌, IsErrOf};
 ghost use Rattle.spec_base.specs.Faults.{Rose};
-ghost use Rattle.speclog.specs.Input.{HasRead, CountsRead};
+ghost use Rattle.speclog.specs.inside.Input.{HasRead, CountsRead};
 
 use quota_table::{Bytes, OutOfMemory};
 use spec_base::{Source, Stop};

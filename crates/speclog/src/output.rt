@@ -2,7 +2,7 @@
 
 ghost use Rattle.std.specs.Prelude.{IsErrOf};
 ghost use Rattle.spec_base.specs.Faults.{Rose, CountsFault};
-ghost use Rattle.speclog.specs.Output.{HasWritten};
+ghost use Rattle.speclog.specs.inside.Output.{HasWritten};
 
 use spec_base::{Sink, Stop};
 
