@@ -2,12 +2,7 @@
 
 ghost use Rattle.msg_wire.specs.Valid.{IsValidConfig};
 ghost use Rattle.net_model.specs.Pasts.{past_of};
-ghost use Rattle.runs.specs.Chosen.{KnownIsChosen};
-ghost use Rattle.runs.specs.Cuts.{CutsAreTrue};
-ghost use Rattle.runs.specs.Eagerness.{IsEager};
-ghost use Rattle.runs.specs.Runs.{IsRun};
-ghost use Rattle.runs.specs.Safety.{IsSafe};
-ghost use Rattle.runs.specs.Speculating.{SpeculationAgrees};
+ghost use Rattle.runs.specs.Laws.{IsRun, IsSafe, CutsAreTrue, IsEager, KnownIsChosen, SpeculationAgrees};
 
 use msg_wire::Config;
 use net_model::History;
