@@ -1,5 +1,5 @@
 -- What the machine of one slot does as one of its replicas does something: each time the state that follows, which is sound.
-use Rattle.std.proofs.Common.{◌≡◌, ◌∙◌, ℕ, ◌<◌, ◌==◌, Bool, true, false, List, [], ◌∷◌, length, Contains, Option, Some, None, is_some, inl, inr, refl, sym, ap, subst, if◌then◌else◌}
+use Rattle.std.proofs.Common.{◌≡◌, ◌∙◌, ℕ, ◌<◌, ◌==◌, Bool, true, false, List, [], ◌∷◌, length, Contains, Option, Some, None, is_some, inl, refl, sym, ap, subst, if◌then◌else◌}
 use Rattle.std.proofs.lemmas.Bool.{eq-eqb}
 use Rattle.majority.specs.Ballots.{greater_promise, is_majority}
 use Rattle.majority.specs.Acceptors.{AcceptorState, with_promise, with_vote, prepare_answer_unless, after_prepare_answer, accept_answer_unless, after_accept_answer}
