@@ -1,6 +1,5 @@
 pub mod Lists
 pub mod Flags
-pub mod NodePlaces
 pub mod After
 pub mod NodesAfter
 pub mod Kept

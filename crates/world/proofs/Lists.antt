@@ -26,12 +26,6 @@ set_map f g (y ∷ ys) (suc i) x e same =
     ap (λ z. z ∷ slice_set (map f ys) i (g x)) (same 0 y (λ at. absurd (cc)) refl)
     ∙ ap (λ zs. g y ∷ zs) (set_map f g ys i x e (λ j z apart there. same (suc j) z (λ at. apart (cc)) there))
 
--- ---- what holds of each
-
-pub all_from : {X : Type 0} → (P : X → Type 0) (xs : List X) → ((i : ℕ) (x : X) → slice_get xs i ≡ Some x → P x) → AllByRecursion P xs
-all_from P [] each = tt
-all_from P (x ∷ xs) each = (each 0 x refl, all_from P xs (λ i y e. each (suc i) y e))
-
 -- ---- flags of numbers
 
 none_set : (f : ℕ → Bool) (a n : ℕ) → ((k : ℕ) → a ≤ k → f k ≡ false) → map f (range_with_len a n) ≡ replicate n false
@@ -53,24 +47,6 @@ first_unset f a zero = refl
 first_unset f a (suc n) = ap (cond (not (f a)) (Some a)) (first_unset f (a + 1) n)
 
 -- ---- loops
-
--- a loop that puts something at the end for each number
-pub one_more : {X : Type 0} → (f : ℕ → X) (base now later : List X) (n : ℕ) → now ≡ base ++ map f (range_with_len 0 n) → later ≡ now ++ f n ∷ []
-    → later ≡ base ++ map f (range_with_len 0 (n + 1))
-one_more {X} f base now later n so_far e =
-    e ∙ ap (λ (xs : List X). xs ++ f n ∷ []) so_far ∙ append_assoc base (map f (range_with_len 0 n)) (f n ∷ [])
-    ∙ ap (λ (xs : List X). base ++ xs) (sym (map-range_with_len_more f 0 n n (omega arith)))
-
-pub several_more : {X : Type 0} → (f : ℕ → List X) (base now later : List X) (n : ℕ) → now ≡ base ++ flat_map f (range_with_len 0 n) → later ≡ now ++ f n
-    → later ≡ base ++ flat_map f (range_with_len 0 (n + 1))
-several_more {X} f base now later n so_far e =
-    let at : 0 + n ≡ n = omega arith in
-    e ∙ ap (λ (xs : List X). xs ++ f n) so_far ∙ append_assoc base (flat_map f (range_with_len 0 n)) (f n)
-    ∙ ap (λ (xs : List X). base ++ xs)
-    (sym
-    (ap (flat_map f) (sym (range_with_len-append 0 n 1) ∙ ap (λ (k : ℕ). range_with_len 0 n ++ k ∷ []) at)
-    ∙ flat_map-append f (range_with_len 0 n) (n ∷ [])
-    ∙ ap (λ (xs : List X). flat_map f (range_with_len 0 n) ++ xs) (append-nil (f n))))
 
 pub one_clear_more : (base now later : List Bool) (n : ℕ) → now ≡ base ++ replicate n false → later ≡ now ++ false ∷ []
     → later ≡ base ++ replicate (n + 1) false

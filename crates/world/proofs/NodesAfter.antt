@@ -8,7 +8,7 @@ use Rattle.std.proofs.lemmas.Option.{slice_get-map}
 use Rattle.world.specs.inside.Names.{same_node, nodes_of, IsValidConfig, IsNodeOf, Past, NodeId, Config, HistoryEntry, IsPastOf, leaves_any, node_after, rank_of}
 use Rattle.runs.proofs.SameNodes.{same_node_is}
 use Rattle.world.proofs.Lists.{set_map}
-use Rattle.world.proofs.NodePlaces.{place-there, place-only}
+use Rattle.node_order.proofs.NodePlaces.{place-there, place-only}
 use Rattle.world.proofs.After.{own_after, other_after}
 
 -- ---- nodes

@@ -1,5 +1,4 @@
 -- What only the contracts of this crate's private functions, its invariants and its proofs cite.
-pub mod Places
 pub mod Outboxes
 pub mod PlayerSteps
 pub mod Kept

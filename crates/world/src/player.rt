@@ -11,11 +11,12 @@ ghost use Rattle.world.specs.inside.PlayerSteps.{kept_of, happens, settles, deli
 ghost use Rattle.runs.specs.Runs.{IsRun};
 
 use crate::any_node::AnyNode;
-use crate::cluster::{deliver_at, fresh_nodes, nodes_in_order, place_of, step_at};
+use crate::cluster::{deliver_at, fresh_nodes, step_at};
 use crate::copies::{copy_of, copy_of_command};
 use crate::outbox::Outbox;
 use msg_wire::{Command, Config, Event, Input, Step};
 use net_model::History;
+use node_order::{nodes_in_order, place_of};
 use quota_table::OutOfMemory;
 use record_codec::Body;
 use spec_base::NodeId;

@@ -13,7 +13,7 @@ pub use Rattle.runs.specs.Names.{Config, Event, HistoryEntry, Input, Item, Messa
 pub use Rattle.runs.specs.Runs.{IsPastOf}
 pub use Rattle.world.specs.AnyNodes.{leaves_any, node_after}
 pub use Rattle.world.specs.inside.Kept.{AreParts, shown_by}
-pub use Rattle.world.specs.inside.Places.{rank_of}
+pub use Rattle.node_order.specs.Places.{rank_of}
 pub use Rattle.world.specs.inside.PlayerSteps.{PlayerState, happens, ticks_next}
 pub use Rattle.world.specs.Playing.{entry_made}
 pub use Rattle.world.specs.declared.errors.PlayError.{PlayError}

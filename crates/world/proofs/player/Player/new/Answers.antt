@@ -8,7 +8,7 @@ use Rattle.runs.specs.Names.{Config}
 use Rattle.runs.specs.Names.nodes
 use Rattle.world.specs.AnyNodes.{fresh_any}
 use Rattle.world.specs.inside.Kept.{AreParts}
-use Rattle.world.proofs.NodePlaces.{place_within, nodes_within}
+use Rattle.node_order.proofs.NodePlaces.{place_within, nodes_within}
 use Rattle.node_rules.proofs.Within.{some_sequencer}
 use Rattle.world.proofs.Happening.{nothing_happened, along}
 use Rattle.world.proofs.player.Player.new.Goals as goal

@@ -2,7 +2,7 @@ use Rattle.std.proofs.Common.{◌≡◌, ℕ, ◌+◌, ◌%◌, ◌<◌, length,
 use Rattle.msg_wire.specs.Nodes.{nodes_of}
 use Rattle.runs.specs.Names.events
 use Rattle.world.specs.inside.PlayerSteps.{PlayerState, CanTake}
-use Rattle.world.proofs.NodePlaces.{place-only}
+use Rattle.node_order.proofs.NodePlaces.{place-only}
 use Rattle.world.proofs.Turns.{has_turn, ticked}
 use Rattle.world.proofs.player.Player.tick_next.Goals as goal
 

@@ -1,8 +1,9 @@
 -- Where a node stands among all nodes.
 use Rattle.std.specs.Prelude.{ℕ, ◌+◌, ◌*◌, length}
-use Rattle.runs.specs.Names.{NodeId, Config}
-use Rattle.runs.specs.Names.nodes
-use Rattle.runs.specs.Names.sides
+use Rattle.msg_wire.specs.declared.config.Config.{Config}
+use Rattle.msg_wire.specs.Names.{NodeId}
+use Rattle.msg_wire.specs.Names.nodes
+use Rattle.msg_wire.specs.Names.sides
 
 -- the place of a node in the order of nodes, from 0
 abbrev pub rank_of : Config → NodeId → ℕ

@@ -6,11 +6,13 @@ use Rattle.std.proofs.lemmas.List.FromFn.{length-map-range_with_len, get_or-map-
 use Rattle.std.proofs.lemmas.Option.{slice_get_within, slice_get-get_or}
 use Rattle.fix_ante.proofs.Entries.{slice_get-append_left, slice_get-append_right}
 use Rattle.msg_wire.specs.Nodes.{sequencers_of, replicas_of, all_replicas_of, clients_of, consumers_of, nodes_of}
-use Rattle.world.specs.inside.Names.{IsNodeOf, rank_of}
-use Rattle.runs.specs.Names.{NodeId, Side, Config}
-use Rattle.runs.specs.Names.nodes
-use Rattle.runs.specs.Names.sides
-use Rattle.world.proofs.Lists.{all_from}
+use Rattle.msg_wire.specs.Valid.{IsNodeOf}
+use Rattle.node_order.specs.Places.{rank_of}
+use Rattle.msg_wire.specs.declared.config.Config.{Config}
+use Rattle.msg_wire.specs.Names.{NodeId, Side}
+use Rattle.msg_wire.specs.Names.nodes
+use Rattle.msg_wire.specs.Names.sides
+use Rattle.node_order.proofs.Lists.{all_from}
 
 -- ---- names by number
 
