@@ -6,6 +6,7 @@ use Rattle.std.proofs.lemmas.List.{take-append-drop}
 use Rattle.record_codec.specs.Reading.{◌>>=◌}
 use Rattle.script_text.specs.Names.{Row, AppKind, Config, Input, ScriptKind}
 use Rattle.script_text.specs.Lines.{Line, counts, counted_from, counted_lines, left_of, whole, end_of}
+use Rattle.script_text.specs.Spelled.{script_word}
 use Rattle.script_text.specs.Judged.{Judged, version_in, seqs_in, shards_in, window_in, clients_in, consumers_in, input_in}
 use Rattle.script_text.specs.Reading.{Refusal, on_line, due_line, head_in, inputs_in, lines_in, script_in, IsRefusedAt}
 use Rattle.script_text.specs.Scripts.{SpellsLines, SpellsScript, lines_before}
@@ -89,9 +90,9 @@ module _ (end other : ℕ) (more : List Line) where
   more_second : (version : ℕ) (left : List Line) → 5 ≤ length left → second end version (left ++ more) ≡ with_more more (second other version left)
   more_second version left some = due_more end other seqs_in (from_third end) (from_third other) 4 left more some more_third
 
-  head_more : (front : List Line) → 6 ≤ length front → head_in end (front ++ more) ≡ with_more more (head_in other front)
+  head_more : (front : List Line) → 6 ≤ length front → head_in script_word end (front ++ more) ≡ with_more more (head_in script_word other front)
   unfolding head_in
-  head_more front some = due_more end other version_in (second end) (second other) 5 front more some more_second
+  head_more front some = due_more end other (version_in script_word) (second end) (second other) 5 front more some more_second
 
 module _ (other line : ℕ) where
   below_sixth : (seqs shards : ℕ) (window : ℕ × List Row) (homes : List ℕ) (left : List Line) → AllBelow line left → 1 ≤ length left
@@ -111,9 +112,9 @@ module _ (other line : ℕ) where
   below_second : (version : ℕ) (left : List Line) → AllBelow line left → 5 ≤ length left → Below line (second other version left)
   below_second version left few some = due_below other other seqs_in (from_third other) (from_third other) line 4 left few some below_third
 
-  head_below : (front : List Line) → AllBelow line front → 6 ≤ length front → Below line (head_in other front)
+  head_below : (front : List Line) → AllBelow line front → 6 ≤ length front → Below line (head_in script_word other front)
   unfolding head_in
-  head_below front few some = due_below other other version_in (second other) (second other) line 5 front few some below_second
+  head_below front few some = due_below other other (version_in script_word) (second other) (second other) line 5 front few some below_second
 
 -- ---- the inputs
 
@@ -154,7 +155,7 @@ same_refusal : (r : Result (Config × List Input) Refusal) (a b : Refusal) → r
 same_refusal r a b e f = cc
 
 from_inputs : (end other line : ℕ) (kind : ScriptKind) (front more : List Line) (c : Config) (left : List Line) (s : Result (List Input) Refusal)
-    → head_in other front ≡ Ok (c, left) → head_in end (front ++ more) ≡ Ok (c, left ++ more) → inputs_in c left ≡ s → Below line s
+    → head_in script_word other front ≡ Ok (c, left) → head_in script_word end (front ++ more) ≡ Ok (c, left ++ more) → inputs_in c left ≡ s → Below line s
     → lines_in end (front ++ more) ≡ Err (line, kind) → Taken other front
 unfolding lines_in
 from_inputs end other line kind front more c left (Ok inputs) h whole_head i few refused = (c, inputs, rw (h, i) refl)
@@ -163,11 +164,11 @@ from_inputs end other line kind front more c left (Err refusal) h whole_head i f
     absurd (not_there line kind refusal few (same_refusal (lines_in end (front ++ more)) refusal (line, kind) stopped refused))
 
 from_head : (end other line : ℕ) (kind : ScriptKind) (front more : List Line) (r : Result (Config × List Line) Refusal) → AllBelow line front
-    → head_in other front ≡ r → head_in end (front ++ more) ≡ with_more more r → Below line r → lines_in end (front ++ more) ≡ Err (line, kind)
+    → head_in script_word other front ≡ r → head_in script_word end (front ++ more) ≡ with_more more r → Below line r → lines_in end (front ++ more) ≡ Err (line, kind)
     → Taken other front
 unfolding lines_in with_more
 from_head end other line kind front more (Ok (c, left)) few h whole_head below refused =
-    let rest : left ≡ drop 6 front = (head_in-ok other front (c, left) h).rest_is in
+    let rest : left ≡ drop 6 front = (head_in-ok script_word other front (c, left) h).rest_is in
     let P : List Line → Type 0 = AllBelow line in
     let left_few : AllBelow line left = subst P (sym rest) (below_rest line 6 front few) in
     from_inputs end other line kind front more c left (inputs_in c left) h whole_head refl (inputs_below c line left left_few) refused
@@ -178,7 +179,7 @@ from_head end other line kind front more (Err refusal) few h whole_head below re
 taken_front : (end other line : ℕ) (kind : ScriptKind) (front more : List Line) → AllBelow line front → 6 ≤ length front
     → lines_in end (front ++ more) ≡ Err (line, kind) → Taken other front
 taken_front end other line kind front more few six refused =
-    from_head end other line kind front more (head_in other front) few refl (head_more end other more front six) (head_below other line front few six) refused
+    from_head end other line kind front more (head_in script_word other front) few refl (head_more end other more front six) (head_below other line front few six) refused
 
 -- ---- numbered lines
 

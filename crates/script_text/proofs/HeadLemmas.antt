@@ -18,18 +18,18 @@ abbrev pub IsPlain : Line → Type 0
 IsPlain l = IsTrue (is_printable l.bytes)
 
 -- lines that begin with the head of a cluster, and the rest of them
-pub record HasHead (lines : List Line) (c : Config) (rest : List Line) : Type 0 where
+pub record HasHead (due : List ℕ) (lines : List Line) (c : Config) (rest : List Line) : Type 0 where
   pub rest_is : rest ≡ drop 6 lines
   pub plain : AllByRecursion IsPlain (take 6 lines)
-  pub head : SpellsHead (map (λ (l : Line). words_of l.bytes) (take 6 lines)) c
+  pub head : SpellsHead due (map (λ (l : Line). words_of l.bytes) (take 6 lines)) c
   pub valid : IsValidConfig c
 
 module _ {A : Type 0} (end : ℕ) (judge : List ℕ → Judged A) where
-  on_line-ok : (number : ℕ) (j : Judged A) (x : A) → on_line number j ≡ Ok x → j ≡ Ok x
+  pub on_line-ok : (number : ℕ) (j : Judged A) (x : A) → on_line number j ≡ Ok x → j ≡ Ok x
   on_line-ok number (Ok y) x e = ap Ok (ok_is Refusal y x e)
   on_line-ok number (Err kind) x e = absurd cc
 
-  due_line-ok : (lines : List Line) (p : A × List Line) → due_line end judge lines ≡ Ok p → (l : Line) × (lines ≡ l ∷ p.1) × (judge l.bytes ≡ Ok p.0)
+  pub due_line-ok : (lines : List Line) (p : A × List Line) → due_line end judge lines ≡ Ok p → (l : Line) × (lines ≡ l ∷ p.1) × (judge l.bytes ≡ Ok p.0)
   due_line-ok [] p e = absurd cc
   due_line-ok (l ∷ ls) p e =
       let a = bind_ok (on_line l.number (judge l.bytes)) (λ value. Ok (value, ls)) p e in
@@ -56,12 +56,12 @@ from_third end seqs lines = due_line end shards_in lines >>= λ x. from_fourth e
 abbrev pub from_second : ℕ → List Line → Result (Config × List Line) Refusal
 from_second end lines = due_line end seqs_in lines >>= λ x. from_third end x.0 x.1
 
-six_lines : (l1 l2 l3 l4 l5 l6 : Line) (rest : List Line) (version seqs shards : ℕ) (window : ℕ × List Row) (homes : List ℕ) (consumers : ℕ × AppKind)
-    → version_in l1.bytes ≡ Ok version → seqs_in l2.bytes ≡ Ok seqs → shards_in l3.bytes ≡ Ok shards → window_in shards l4.bytes ≡ Ok window
+six_lines : (due : List ℕ) (l1 l2 l3 l4 l5 l6 : Line) (rest : List Line) (version seqs shards : ℕ) (window : ℕ × List Row) (homes : List ℕ) (consumers : ℕ × AppKind)
+    → version_in due l1.bytes ≡ Ok version → seqs_in l2.bytes ≡ Ok seqs → shards_in l3.bytes ≡ Ok shards → window_in shards l4.bytes ≡ Ok window
     → clients_in window.1 l5.bytes ≡ Ok homes → consumers_in l6.bytes ≡ Ok consumers
-    → HasHead (l1 ∷ l2 ∷ l3 ∷ l4 ∷ l5 ∷ l6 ∷ rest) (cluster seqs shards window homes consumers) rest
-six_lines l1 l2 l3 l4 l5 l6 rest version seqs shards window homes consumers e1 e2 e3 e4 e5 e6 =
-    let h1 = version_in-ok l1.bytes version e1 in
+    → HasHead due (l1 ∷ l2 ∷ l3 ∷ l4 ∷ l5 ∷ l6 ∷ rest) (cluster seqs shards window homes consumers) rest
+six_lines due l1 l2 l3 l4 l5 l6 rest version seqs shards window homes consumers e1 e2 e3 e4 e5 e6 =
+    let h1 = version_in-ok due l1.bytes version e1 in
     let h2 = seqs_in-ok l2.bytes seqs e2 in
     let h3 = shards_in-ok l3.bytes shards e3 in
     let h4 = window_in-ok shards l4.bytes window e4 in
@@ -88,41 +88,41 @@ six_lines l1 l2 l3 l4 l5 l6 rest version seqs shards window homes consumers e1 e
     }
 
 -- what is judged a head is the head of a cluster
-pub head_in-ok : (end : ℕ) (lines : List Line) (p : Config × List Line) → head_in end lines ≡ Ok p → HasHead lines p.0 p.1
+pub head_in-ok : (due : List ℕ) (end : ℕ) (lines : List Line) (p : Config × List Line) → head_in due end lines ≡ Ok p → HasHead due lines p.0 p.1
 unfolding head_in
-head_in-ok end lines p e =
-    let b1 = bind_ok (due_line end version_in lines) (λ x. from_second end x.1) p e in
+head_in-ok due end lines p e =
+    let b1 = bind_ok (due_line end (version_in due) lines) (λ x. from_second end x.1) p e in
     let b2 = bind_ok (due_line end seqs_in b1.0.1) (λ x. from_third end x.0 x.1) p b1.2 in
     let b3 = bind_ok (due_line end shards_in b2.0.1) (λ x. from_fourth end b2.0.0 x.0 x.1) p b2.2 in
     let b4 = bind_ok (due_line end (window_in b3.0.0) b3.0.1) (λ x. from_fifth end b2.0.0 b3.0.0 x.0 x.1) p b3.2 in
     let b5 = bind_ok (due_line end (clients_in b4.0.0.1) b4.0.1) (λ x. from_sixth end b2.0.0 b3.0.0 b4.0.0 x.0 x.1) p b4.2 in
     let b6 = bind_ok (due_line end consumers_in b5.0.1) (λ x. Ok (cluster b2.0.0 b3.0.0 b4.0.0 b5.0.0 x.0, x.1)) p b5.2 in
-    let l1 = due_line-ok end version_in lines b1.0 b1.1 in
+    let l1 = due_line-ok end (version_in due) lines b1.0 b1.1 in
     let l2 = due_line-ok end seqs_in b1.0.1 b2.0 b2.1 in
     let l3 = due_line-ok end shards_in b2.0.1 b3.0 b3.1 in
     let l4 = due_line-ok end (window_in b3.0.0) b3.0.1 b4.0 b4.1 in
     let l5 = due_line-ok end (clients_in b4.0.0.1) b4.0.1 b5.0 b5.1 in
     let l6 = due_line-ok end consumers_in b5.0.1 b6.0 b6.1 in
     let lines_are : lines ≡ l1.0 ∷ l2.0 ∷ l3.0 ∷ l4.0 ∷ l5.0 ∷ l6.0 ∷ b6.0.1 = l1.1 ∙ ap (λ (t : List Line). l1.0 ∷ t) (l2.1 ∙ ap (λ (t : List Line). l2.0 ∷ t) (l3.1 ∙ ap (λ (t : List Line). l3.0 ∷ t) (l4.1 ∙ ap (λ (t : List Line). l4.0 ∷ t) (l5.1 ∙ ap (λ (t : List Line). l5.0 ∷ t) l6.1)))) in
-    let facts : HasHead (l1.0 ∷ l2.0 ∷ l3.0 ∷ l4.0 ∷ l5.0 ∷ l6.0 ∷ b6.0.1) (cluster b2.0.0 b3.0.0 b4.0.0 b5.0.0 b6.0.0) b6.0.1 =
-    six_lines l1.0 l2.0 l3.0 l4.0 l5.0 l6.0 b6.0.1 b1.0.0 b2.0.0 b3.0.0 b4.0.0 b5.0.0 b6.0.0 l1.2 l2.2 l3.2 l4.2 l5.2 l6.2 in
-    let P : List Line → Type 0 = λ t. HasHead t (cluster b2.0.0 b3.0.0 b4.0.0 b5.0.0 b6.0.0) b6.0.1 in
-    let Q : Config × List Line → Type 0 = λ q. HasHead lines q.0 q.1 in
+    let facts : HasHead due (l1.0 ∷ l2.0 ∷ l3.0 ∷ l4.0 ∷ l5.0 ∷ l6.0 ∷ b6.0.1) (cluster b2.0.0 b3.0.0 b4.0.0 b5.0.0 b6.0.0) b6.0.1 =
+    six_lines due l1.0 l2.0 l3.0 l4.0 l5.0 l6.0 b6.0.1 b1.0.0 b2.0.0 b3.0.0 b4.0.0 b5.0.0 b6.0.0 l1.2 l2.2 l3.2 l4.2 l5.2 l6.2 in
+    let P : List Line → Type 0 = λ t. HasHead due t (cluster b2.0.0 b3.0.0 b4.0.0 b5.0.0 b6.0.0) b6.0.1 in
+    let Q : Config × List Line → Type 0 = λ q. HasHead due lines q.0 q.1 in
     subst Q (ok_is Refusal (cluster b2.0.0 b3.0.0 b4.0.0 b5.0.0 b6.0.0, b6.0.1) p b6.2) (subst P (sym lines_are) facts)
 
 -- the head of a cluster is judged one
-pub head_in-back : (end : ℕ) (lines : List Line) (c : Config) → AllByRecursion IsPlain (take 6 lines)
-    → SpellsHead (map (λ (l : Line). words_of l.bytes) (take 6 lines)) c → IsValidConfig c → head_in end lines ≡ Ok (c, drop 6 lines)
+pub head_in-back : (due : List ℕ) (end : ℕ) (lines : List Line) (c : Config) → AllByRecursion IsPlain (take 6 lines)
+    → SpellsHead due (map (λ (l : Line). words_of l.bytes) (take 6 lines)) c → IsValidConfig c → head_in due end lines ≡ Ok (c, drop 6 lines)
 unfolding head_in
-head_in-back end [] c p h v = absurd h
-head_in-back end (l1 ∷ []) c p h v = absurd h
-head_in-back end (l1 ∷ l2 ∷ []) c p h v = absurd h
-head_in-back end (l1 ∷ l2 ∷ l3 ∷ []) c p h v = absurd h
-head_in-back end (l1 ∷ l2 ∷ l3 ∷ l4 ∷ []) c p h v = absurd h
-head_in-back end (l1 ∷ l2 ∷ l3 ∷ l4 ∷ l5 ∷ []) c p h v = absurd h
-head_in-back end (l1 ∷ l2 ∷ l3 ∷ l4 ∷ l5 ∷ l6 ∷ rest) c p h v =
+head_in-back due end [] c p h v = absurd h
+head_in-back due end (l1 ∷ []) c p h v = absurd h
+head_in-back due end (l1 ∷ l2 ∷ []) c p h v = absurd h
+head_in-back due end (l1 ∷ l2 ∷ l3 ∷ []) c p h v = absurd h
+head_in-back due end (l1 ∷ l2 ∷ l3 ∷ l4 ∷ []) c p h v = absurd h
+head_in-back due end (l1 ∷ l2 ∷ l3 ∷ l4 ∷ l5 ∷ []) c p h v = absurd h
+head_in-back due end (l1 ∷ l2 ∷ l3 ∷ l4 ∷ l5 ∷ l6 ∷ rest) c p h v =
     rw (
-      version_in-back l1.bytes p.0 h.0,
+      version_in-back due l1.bytes p.0 h.0,
       seqs_in-back l2.bytes c.seqs p.1.0 h.1 (majority_true c.seqs v.seqs),
       shards_in-back l3.bytes c.shards p.1.1.0 h.2 (from_to-true 1 6 c.shards v.some_shard v.most_shards),
       window_in-back c.shards l4.bytes c.rounds c.table p.1.1.1.0 h.3 v.rounds v.rows,

@@ -34,21 +34,21 @@ version_some (word ∷ rest) v e =
     let h = version_ok [] word rest v (is_decimal word && (value_of word == 1)) (nat_lt 0 (length rest)) refl refl e in
     (word, ap (λ (ws : List (List ℕ)). word ∷ ws) h.0, h.1)
 
-pub version_in-ok : (line : List ℕ) (v : ℕ) → version_in line ≡ Ok v → IsTrue (is_printable line) × SpellsNumber (codes "belfast") (words_of line) 1
+pub version_in-ok : (due line : List ℕ) (v : ℕ) → version_in due line ≡ Ok v → IsTrue (is_printable line) × SpellsNumber due (words_of line) 1
 unfolding version_in
-version_in-ok line v e =
-    let a = bind_ok (due_in (codes "belfast") line) (λ words. version_of words) v e in
-    let d = due_in-ok (codes "belfast") line a.0 a.1 in
+version_in-ok due line v e =
+    let a = bind_ok (due_in due line) (λ words. version_of words) v e in
+    let d = due_in-ok due line a.0 a.1 in
     let s = version_some a.0 v a.2 in
-    (d.0, (s.0, d.1 ∙ ap (λ (ws : List (List ℕ)). codes "belfast" ∷ ws) s.1, s.2))
+    (d.0, (s.0, d.1 ∙ ap (λ (ws : List (List ℕ)). due ∷ ws) s.1, s.2))
 
 version_one : (word : List ℕ) → SpellsDecimal word 1 → version_of (word ∷ []) ≡ Ok 1
 unfolding version_of
 version_one word s = let one : (value_of word == 1) ≡ true = grind (arith, nat_tests, s.1) in rw (s.0, one) refl
 
-pub version_in-back : (line : List ℕ) → IsTrue (is_printable line) → SpellsNumber (codes "belfast") (words_of line) 1 → version_in line ≡ Ok 1
+pub version_in-back : (due line : List ℕ) → IsTrue (is_printable line) → SpellsNumber due (words_of line) 1 → version_in due line ≡ Ok 1
 unfolding version_in
-version_in-back line p s = rw (due_in-back (codes "belfast") line (s.0 ∷ []) p s.1) (version_one s.0 s.2)
+version_in-back due line p s = rw (due_in-back due line (s.0 ∷ []) p s.1) (version_one s.0 s.2)
 
 -- ---- sequencers and shards
 

@@ -17,4 +17,14 @@ pub mod CutLemmas
 pub mod BeforeLemmas
 pub mod PlainWords
 pub mod PlainTexts
+pub mod PlainInputs
+pub mod PlainClusters
+pub mod PlainScripts
+pub mod PlainPlans
 pub mod PlainLines
+pub mod PlanLemmas
+pub mod PlanLines
+pub mod PlanHeads
+pub mod PlanTaken
+pub mod GeneratedLemmas
+pub mod GeneratedTexts

@@ -1,6 +1,6 @@
 -- Plain words: letters, digits and marks that stand in a line, and sentences of them.
-use Rattle.std.proofs.Common.{◌≡◌, ℕ, ◌+◌, ◌<◌, ◌≤◌, ◌^◌, ◌&&◌, Bool, true, false, nat_lt, nat_le, List, [], ◌∷◌, ◌++◌, length, decimal, refl, sym, ap, ◌∙◌, arith, append-nil}
-use Rattle.std.specs.List.{AllByRecursion}
+use Rattle.std.proofs.Common.{◌≡◌, ℕ, ◌+◌, ◌<◌, ◌≤◌, ◌^◌, ◌&&◌, Bool, true, false, nat_lt, nat_le, List, [], ◌∷◌, ◌++◌, length, map, decimal, refl, sym, ap, ◌∙◌, arith, append-nil}
+use Rattle.std.specs.List.{AllByRecursion, AllZip}
 use Rattle.std.specs.Str.{all_ascii_digits}
 use Rattle.std.specs.Str.Parse.{digits_value}
 use Rattle.std.specs.Char.{is_ascii_digit}
@@ -94,6 +94,14 @@ spelled_decimal n h =
     let some : 0 < length (decimal n) = (decimal_is_IsNumeral n small).0.0 in
     let few : length (decimal n) ≤ 18 = length-decimal-le 18 n (omega arith) h small in
     (both (nat_lt 0 (length (decimal n))) (nat_le (length (decimal n)) 18 && all_ascii_digits (decimal n)) (grind (arith, nat_tests)) (both (nat_le (length (decimal n)) 18) (all_ascii_digits (decimal n)) (grind (arith, nat_tests)) digits), sym (digits_value-decimal own n small))
+
+pub plain_decimals : (ns : List ℕ) → AllByRecursion (λ n. n < 10 ^ 18) ns → AllByRecursion IsPlainWord (map decimal ns)
+plain_decimals [] h = tt
+plain_decimals (n ∷ ns) h = (plain_decimal n h.0, plain_decimals ns h.1)
+
+pub spelled_decimals : (ns : List ℕ) → AllByRecursion (λ n. n < 10 ^ 18) ns → AllZip SpellsDecimal (map decimal ns) ns
+spelled_decimals [] h = tt
+spelled_decimals (n ∷ ns) h = (spelled_decimal n h.0, spelled_decimals ns h.1)
 
 -- ---- nodes and rows
 

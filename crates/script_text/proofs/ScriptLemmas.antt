@@ -10,7 +10,7 @@ use Rattle.script_text.specs.declared.script.Script.{Script}
 use Rattle.script_text.specs.declared.errors.ScriptError.{ScriptError}
 use Rattle.script_text.specs.declared.errors.ScriptError.TheVariants as script_errors
 use Rattle.script_text.specs.Lines.{Line, numbers_of, counted_lines, whole, end_of}
-use Rattle.script_text.specs.Spelled.{SpellsInput}
+use Rattle.script_text.specs.Spelled.{script_word, SpellsInput}
 use Rattle.script_text.specs.Scripts.{SpellsLines, SpellsScript}
 use Rattle.script_text.specs.Judged.{input_in}
 use Rattle.script_text.specs.Reading.{Refusal, on_line, head_in, inputs_in, lines_in, script_in}
@@ -20,15 +20,15 @@ use Rattle.script_text.proofs.InputSpelled.{input_in-ok, input_in-back}
 
 -- ---- the head
 
-pub head-valid : (end : ℕ) (lines rest : List Line) (r : Result Config ScriptError) → Gives (λ (c : Config). (c, rest)) r (head_in end lines)
+pub head-valid : (due : List ℕ) (end : ℕ) (lines rest : List Line) (r : Result Config ScriptError) → Gives (λ (c : Config). (c, rest)) r (head_in due end lines)
     → IfOk r IsValidConfig
-head-valid end lines rest (Ok c) g = (head_in-ok end lines (c, rest) g).valid
-head-valid end lines rest (Err e) g = tt
+head-valid due end lines rest (Ok c) g = (head_in-ok due end lines (c, rest) g).valid
+head-valid due end lines rest (Err e) g = tt
 
-pub head-rest : (end : ℕ) (lines rest : List Line) (r : Result Config ScriptError) → Gives (λ (c : Config). (c, rest)) r (head_in end lines)
+pub head-rest : (due : List ℕ) (end : ℕ) (lines rest : List Line) (r : Result Config ScriptError) → Gives (λ (c : Config). (c, rest)) r (head_in due end lines)
     → IfOk r (λ _. rest ≡ drop 6 lines)
-head-rest end lines rest (Ok c) g = (head_in-ok end lines (c, rest) g).rest_is
-head-rest end lines rest (Err e) g = tt
+head-rest due end lines rest (Ok c) g = (head_in-ok due end lines (c, rest) g).rest_is
+head-rest due end lines rest (Err e) g = tt
 
 -- ---- the inputs
 
@@ -62,17 +62,17 @@ inputs_in-back c (l ∷ lines) (x ∷ inputs) p z h =
 
 -- ---- all lines
 
-plain_joined : (n : ℕ) (lines : List Line) → AllByRecursion IsPlain (take n lines) → AllByRecursion IsPlain (drop n lines) → AllByRecursion IsPlain lines
+pub plain_joined : (n : ℕ) (lines : List Line) → AllByRecursion IsPlain (take n lines) → AllByRecursion IsPlain (drop n lines) → AllByRecursion IsPlain lines
 plain_joined zero lines front rest = rest
 plain_joined (suc n) [] front rest = tt
 plain_joined (suc n) (l ∷ lines) front rest = (front.0, plain_joined n lines front.1 rest)
 
-plain_front : (n : ℕ) (lines : List Line) → AllByRecursion IsPlain lines → AllByRecursion IsPlain (take n lines)
+pub plain_front : (n : ℕ) (lines : List Line) → AllByRecursion IsPlain lines → AllByRecursion IsPlain (take n lines)
 plain_front zero lines p = tt
 plain_front (suc n) [] p = tt
 plain_front (suc n) (l ∷ lines) p = (p.0, plain_front n lines p.1)
 
-plain_rest : (n : ℕ) (lines : List Line) → AllByRecursion IsPlain lines → AllByRecursion IsPlain (drop n lines)
+pub plain_rest : (n : ℕ) (lines : List Line) → AllByRecursion IsPlain lines → AllByRecursion IsPlain (drop n lines)
 plain_rest zero lines p = p
 plain_rest (suc n) [] p = tt
 plain_rest (suc n) (l ∷ lines) p = plain_rest n lines p.1
@@ -81,10 +81,10 @@ pub lines_in-ok : (end : ℕ) (lines : List Line) (c : Config) (inputs : List In
     → SpellsLines lines c inputs (numbers_of (drop 6 lines))
 unfolding lines_in
 lines_in-ok end lines c inputs e =
-    let a = bind_ok (head_in end lines) (λ head. inputs_in head.0 head.1 >>= λ xs. Ok (head.0, xs)) (c, inputs) e in
+    let a = bind_ok (head_in script_word end lines) (λ head. inputs_in head.0 head.1 >>= λ xs. Ok (head.0, xs)) (c, inputs) e in
     let b = bind_ok (inputs_in a.0.0 a.0.1) (λ xs. Ok (a.0.0, xs)) (c, inputs) a.2 in
     let same : (a.0.0, b.0) ≡ (c, inputs) = ok_is Refusal (a.0.0, b.0) (c, inputs) b.2 in
-    let head = head_in-ok end lines a.0 a.1 in
+    let head = head_in-ok script_word end lines a.0 a.1 in
     let rest : SpellsInputs a.0.0 (drop 6 lines) b.0 = subst (λ (t : List Line). SpellsInputs a.0.0 t b.0) head.rest_is (inputs_in-ok a.0.0 a.0.1 b.0 b.1) in
     let P : Config × List Input → Type 0 = λ q. SpellsLines lines q.0 q.1 (numbers_of (drop 6 lines)) in
     subst P same (record {
@@ -100,7 +100,7 @@ pub lines_in-back : (end : ℕ) (lines : List Line) (c : Config) (inputs : List 
     → lines_in end lines ≡ Ok (c, inputs)
 unfolding lines_in
 lines_in-back end lines c inputs numbers s =
-    rw (head_in-back end lines c (plain_front 6 lines s.printable) s.head s.config, inputs_in-back c (drop 6 lines) inputs (plain_rest 6 lines s.printable) s.inputs_are s.within) refl
+    rw (head_in-back script_word end lines c (plain_front 6 lines s.printable) s.head s.config, inputs_in-back c (drop 6 lines) inputs (plain_rest 6 lines s.printable) s.inputs_are s.within) refl
 
 -- ---- texts
 
@@ -114,6 +114,7 @@ script-found text (Err e) g n = tt
 only_memory : (c : Config) (inputs : List Input) (e : ScriptError) (reading : Result (Config × List Input) Refusal) → reading ≡ Ok (c, inputs) → Fails e reading
     → e ≡ script_errors.OutOfMemory
 only_memory c inputs (script_errors.At line kind) reading ok bad = absurd cc
+only_memory c inputs (script_errors.TooLong line) reading ok bad = absurd bad
 only_memory c inputs script_errors.OutOfMemory reading ok bad = refl
 
 pub script-only : (text : List ℕ) (r : Result Script ScriptError) → Gives (λ (s : Script). (s.cfg, s.inputs)) r (script_in text)

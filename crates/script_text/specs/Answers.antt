@@ -26,6 +26,7 @@ Says (Err e) judged = Refuses e judged
 -- of a text
 abbrev pub Fails : {Y : Type 0} → ScriptError → Result Y Refusal → Type 0
 Fails (script_errors.At line kind) reading = reading ≡ Err (line, kind)
+Fails (script_errors.TooLong line) reading = ⊥
 Fails script_errors.OutOfMemory reading = Unit {0}
 
 abbrev pub Gives : {X Y : Type 0} → (X → Y) → Result X ScriptError → Result Y Refusal → Type 0

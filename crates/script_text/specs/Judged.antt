@@ -7,7 +7,7 @@ use Rattle.quota_table.specs.Tables.{table_fault, asked_row}
 use Rattle.record_codec.specs.Reading.{◌>>=◌}
 use Rattle.spec_base.specs.Spelling.{node_name}
 use Rattle.msg_wire.specs.Nodes.{nodes_of, sequencers_of}
-use Rattle.script_text.specs.Names.{NodeId, Row, Asked, TableError, AppKind, Config, Input, ScriptKind}
+use Rattle.script_text.specs.Names.{NodeId, Row, Asked, TableError, AppKind, Command, Config, Input, ScriptKind}
 use Rattle.script_text.specs.Names.apps
 use Rattle.script_text.specs.Names.inputs
 use Rattle.script_text.specs.Names.commands
@@ -120,9 +120,9 @@ version_of (word ∷ words) =
     else if nat_lt 0 (length words) then Err kinds.Word
     else Ok 1
 
-unfoldable pub version_in : List ℕ → Judged ℕ
-version_in line = do
-  words ← due_in (codes "belfast") line
+unfoldable pub version_in : List ℕ → List ℕ → Judged ℕ
+version_in due line = do
+  words ← due_in due line
   version_of words
 
 abbrev pub is_majority_size : ℕ → Bool
@@ -169,19 +169,55 @@ consumers_in line = do
   count ← number_in (from_to 1 4) both.0
   Ok (count, app)
 
--- ---- lines of inputs
+-- ---- what lines of scripts and of plans have alike
+
+-- what is made of two parts
+abbrev pub of_both : {A B C : Type 0} → (A → B → C) → Judged (A × B) → Judged C
+of_both make (Ok both) = Ok (make both.0 both.1)
+of_both make (Err kind) = Err kind
 
 -- a body of at most 1,024 bytes
 abbrev pub body_in : List ℕ → Judged (List ℕ)
 body_in body = if nat_lt 1024 (length body) then Err (kinds.Body (length body)) else Ok body
 
--- a client; what would be the body stands apart
-unfoldable pub submit_of : Config → List ℕ → List (List ℕ) → Judged Input
-submit_of c bytes words = do
+-- a client or a submitter, of so many; what would be the body stands apart
+unfoldable pub submit_of : ℕ → List ℕ → List (List ℕ) → Judged (ℕ × List ℕ)
+submit_of count bytes words = do
   first ← first_of words
-  client ← number_below (length c.homes) first.0
+  number ← number_below count first.0
   body ← body_in bytes
-  Ok (inputs.Submit client body)
+  Ok (number, body)
+
+-- any node
+unfoldable pub only_node_of : Config → List (List ℕ) → Judged NodeId
+only_node_of c words = do
+  word ← only_of words
+  node_in (nodes_of c) word
+
+-- a line that names a node alone
+unfoldable pub of_node : {A : Type 0} → (NodeId → A) → Config → List (List ℕ) → Judged A
+of_node make c words = do
+  node ← only_node_of c words
+  Ok (make node)
+
+-- a sequencer, rounds, rows
+unfoldable pub table_of : Config → List (List ℕ) → Judged (NodeId × Command)
+table_of c words = do
+  first ← first_of words
+  second ← first_of first.1
+  node ← node_in (sequencers_of c) first.0
+  window ← window_of c.shards second.0 second.1
+  Ok (node, commands.Table window.0 window.1)
+
+-- a sequencer, a shard
+unfoldable pub remove_of : Config → List (List ℕ) → Judged (NodeId × Command)
+remove_of c words = do
+  both ← both_of words
+  node ← node_in (sequencers_of c) both.0
+  shard ← number_below c.shards both.1
+  Ok (node, commands.Remove shard)
+
+-- ---- lines of inputs
 
 -- any number
 unfoldable pub message_of : List (List ℕ) → Judged ℕ
@@ -201,46 +237,17 @@ drain_of words = do
   count ← number_in (from_to 0 200000) word
   Ok (inputs.Drain count)
 
--- any node
-unfoldable pub only_node_of : Config → List (List ℕ) → Judged NodeId
-only_node_of c words = do
-  word ← only_of words
-  node_in (nodes_of c) word
-
--- an input that names a node alone
-unfoldable pub of_node : (NodeId → Input) → Config → List (List ℕ) → Judged Input
-of_node make c words = do
-  node ← only_node_of c words
-  Ok (make node)
-
--- a sequencer, rounds, rows
-unfoldable pub table_of : Config → List (List ℕ) → Judged Input
-table_of c words = do
-  first ← first_of words
-  second ← first_of first.1
-  node ← node_in (sequencers_of c) first.0
-  window ← window_of c.shards second.0 second.1
-  Ok (inputs.Command node (commands.Table window.0 window.1))
-
--- a sequencer, a shard
-unfoldable pub remove_of : Config → List (List ℕ) → Judged Input
-remove_of c words = do
-  both ← both_of words
-  node ← node_in (sequencers_of c) both.0
-  shard ← number_below c.shards both.1
-  Ok (inputs.Command node (commands.Remove shard))
-
 -- by the first word; the words after it, and what would be the body
 abbrev pub form_of : Config → List ℕ → List (List ℕ) → Judged Input
 form_of c body [] = Err kinds.Word
 form_of c body (word ∷ words) =
-    if is_word (codes "submit") word then submit_of c body words
+    if is_word (codes "submit") word then of_both inputs.Submit (submit_of (length c.homes) body words)
     else if is_word (codes "deliver") word then of_message inputs.Deliver words
     else if is_word (codes "lose") word then of_message inputs.Lose words
     else if is_word (codes "tick") word then of_node inputs.Tick c words
     else if is_word (codes "restart") word then of_node inputs.Restart c words
-    else if is_word (codes "table") word then table_of c words
-    else if is_word (codes "remove") word then remove_of c words
+    else if is_word (codes "table") word then of_both inputs.Command (table_of c words)
+    else if is_word (codes "remove") word then of_both inputs.Command (remove_of c words)
     else if is_word (codes "drain") word then drain_of words
     else Err kinds.Word
 

@@ -6,3 +6,8 @@ pub mod Scripts
 pub mod Judged
 pub mod Reading
 pub mod Answers
+pub mod SpelledPlans
+pub mod Plans
+pub mod JudgedPlans
+pub mod ReadingPlans
+pub mod Generated

@@ -4,6 +4,7 @@ use Rattle.record_codec.specs.Reading.{◌>>=◌}
 use Rattle.script_text.specs.Names.{Config, Input, ScriptKind}
 use Rattle.script_text.specs.Names.kinds
 use Rattle.script_text.specs.Lines.{Line, counted_lines, whole, end_of}
+use Rattle.script_text.specs.Spelled.{script_word}
 use Rattle.script_text.specs.Judged.{Judged, version_in, seqs_in, shards_in, window_in, clients_in, consumers_in, input_in}
 
 -- the number of a line, and why it is refused
@@ -22,10 +23,10 @@ due_line end judge (line ∷ rest) = do
   value ← on_line line.number (judge line.bytes)
   Ok (value, rest)
 
--- the six lines of the head, and the lines after them
-unfoldable pub head_in : ℕ → List Line → Result (Config × List Line) Refusal
-head_in end lines = do
-  version ← due_line end version_in lines
+-- the six lines of the head of a cluster, of which the first begins with the due word, and the lines after them
+unfoldable pub head_in : List ℕ → ℕ → List Line → Result (Config × List Line) Refusal
+head_in due end lines = do
+  version ← due_line end (version_in due) lines
   seqs ← due_line end seqs_in version.1
   shards ← due_line end shards_in seqs.1
   window ← due_line end (window_in shards.0) shards.1
@@ -44,7 +45,7 @@ inputs_in c (line ∷ rest) = do
 -- lines that count, judged one after another; the number of the line after the last one
 unfoldable pub lines_in : ℕ → List Line → Result (Config × List Input) Refusal
 lines_in end lines = do
-  head ← head_in end lines
+  head ← head_in script_word end lines
   inputs ← inputs_in head.0 head.1
   Ok (head.0, inputs)
 

@@ -8,7 +8,7 @@ use Rattle.script_text.specs.Names.{Config, Input}
 use Rattle.script_text.specs.Names.inputs
 use Rattle.script_text.specs.Lines.{Line, numbers_of, counted_from, counted_lines}
 use Rattle.script_text.specs.Words.{is_printable, words_of}
-use Rattle.script_text.specs.Spelled.{SpellsHead, SpellsInput}
+use Rattle.script_text.specs.Spelled.{script_word, SpellsHead, SpellsInput}
 
 -- each byte of these lines is printable
 abbrev pub ArePrintable : List Line → Type 0
@@ -17,7 +17,7 @@ ArePrintable = AllByRecursion (λ (l : Line). IsTrue (is_printable l.bytes))
 -- lines that count, the first six of them a head and each further one an input, spell a cluster and its inputs; numbers are those of the inputs' lines
 pub record SpellsLines (lines : List Line) (c : Config) (inputs : List Input) (numbers : List ℕ) : Type 0 where
   pub printable : AllByRecursion (λ (l : Line). IsTrue (is_printable l.bytes)) lines
-  pub head : SpellsHead (map (λ (l : Line). words_of l.bytes) (take 6 lines)) c
+  pub head : SpellsHead script_word (map (λ (l : Line). words_of l.bytes) (take 6 lines)) c
   pub config : IsValidConfig c
   pub inputs_are : AllZip (λ (l : Line). SpellsInput l.bytes) (drop 6 lines) inputs
   pub within : AllByRecursion (IsInputOf c) inputs

@@ -2,7 +2,7 @@
 use Rattle.std.specs.Prelude.{◌≡◌, ◌⊎◌, ℕ, ◌<◌, ◌≤◌, List, [], ◌∷◌, ◌++◌, length, codes}
 use Rattle.std.specs.List.{AllZip, AllByRecursion}
 use Rattle.spec_base.specs.Spelling.{node_name}
-use Rattle.script_text.specs.Names.{Row, AppKind, NodeId, Config, Input}
+use Rattle.script_text.specs.Names.{Row, AppKind, NodeId, Command, Config, Input}
 use Rattle.script_text.specs.Names.apps
 use Rattle.script_text.specs.Names.inputs
 use Rattle.script_text.specs.Names.commands
@@ -31,16 +31,23 @@ app_name apps.Kv = codes "kv"
 
 -- ---- the head
 
--- the words of the six lines spell the cluster
-abbrev pub SpellsHead : List (List (List ℕ)) → Config → Type 0
-SpellsHead (version ∷ seqs ∷ shards ∷ window ∷ clients ∷ consumers ∷ []) c =
-    SpellsNumber (codes "belfast") version 1
+-- the first word of a script, and that of a plan
+abbrev pub script_word : List ℕ
+script_word = codes "belfast"
+
+abbrev pub plan_word : List ℕ
+plan_word = codes "belfast-plan"
+
+-- the words of six lines, of which the first begins with the due word, spell the cluster
+abbrev pub SpellsHead : List ℕ → List (List (List ℕ)) → Config → Type 0
+SpellsHead due (version ∷ seqs ∷ shards ∷ window ∷ clients ∷ consumers ∷ []) c =
+    SpellsNumber due version 1
     × SpellsNumber (codes "seqs") seqs c.seqs
     × SpellsNumber (codes "shards") shards c.shards
     × ((rows : List (List ℕ)) × (window ≡ codes "window" ∷ rows) × SpellsWindow rows c.rounds c.table)
     × ((homes : List (List ℕ)) × (clients ≡ codes "clients" ∷ homes) × AllZip SpellsDecimal homes c.homes)
     × ((count : List ℕ) × (consumers ≡ codes "consumers" ∷ count ∷ app_name c.app ∷ []) × SpellsDecimal count c.consumers)
-SpellsHead _ c = ⊥
+SpellsHead due _ c = ⊥
 
 -- ---- inputs
 
@@ -51,7 +58,7 @@ AreSpaces = AllByRecursion (λ b. b ≡ 0x20)
 abbrev pub SpellsBody : List ℕ → List ℕ → Type 0
 SpellsBody rest body = (rest ≡ 0x20 ∷ body) ⊎ ((rest ≡ []) × (body ≡ []))
 
--- spaces or none, `submit`, spaces, the client, the body
+-- spaces or none, `submit`, spaces, the client or the submitter, the body
 pub record SpellsSubmit (line : List ℕ) (client : ℕ) (body : List ℕ) : Type 0 where
   pub before : List ℕ
   pub between : List ℕ
@@ -68,6 +75,13 @@ pub record SpellsSubmit (line : List ℕ) (client : ℕ) (body : List ℕ) : Typ
 abbrev pub SpellsNode : List ℕ → List (List ℕ) → NodeId → Type 0
 SpellsNode due words node = words ≡ due ∷ node_name node ∷ []
 
+-- what a sequencer is told
+abbrev pub SpellsCommand : List (List ℕ) → NodeId → Command → Type 0
+SpellsCommand words node (commands.Table rounds rows) =
+    (rest : List (List ℕ)) × (words ≡ codes "table" ∷ node_name node ∷ rest) × SpellsWindow rest rounds rows
+SpellsCommand words node (commands.Remove shard) =
+    (word : List ℕ) × (words ≡ codes "remove" ∷ node_name node ∷ word ∷ []) × SpellsDecimal word shard
+
 -- the line spells the input
 abbrev pub SpellsInput : List ℕ → Input → Type 0
 SpellsInput line (inputs.Submit client body) = SpellsSubmit line client body
@@ -75,8 +89,5 @@ SpellsInput line (inputs.Deliver number) = SpellsNumber (codes "deliver") (words
 SpellsInput line (inputs.Lose number) = SpellsNumber (codes "lose") (words_of line) number
 SpellsInput line (inputs.Tick node) = SpellsNode (codes "tick") (words_of line) node
 SpellsInput line (inputs.Restart node) = SpellsNode (codes "restart") (words_of line) node
-SpellsInput line (inputs.Command node (commands.Table rounds rows)) =
-    (rest : List (List ℕ)) × (words_of line ≡ codes "table" ∷ node_name node ∷ rest) × SpellsWindow rest rounds rows
-SpellsInput line (inputs.Command node (commands.Remove shard)) =
-    (word : List ℕ) × (words_of line ≡ codes "remove" ∷ node_name node ∷ word ∷ []) × SpellsDecimal word shard
+SpellsInput line (inputs.Command node command) = SpellsCommand (words_of line) node command
 SpellsInput line (inputs.Drain count) = SpellsNumber (codes "drain") (words_of line) count × (count ≤ 200000)

@@ -5,12 +5,15 @@ use crate::kind::ScriptKind;
 use quota_table::OutOfMemory;
 use thiserror::Error;
 
-/// Why a text is no script: the first line that is refused, and the first kind that fits it.
+/// Why a text is no script or no plan: the first line that is refused, and the first kind that fits it.
 #[derive(Clone, Copy, Debug, Drop, Error, PartialEq, Eq)]
 pub enum ScriptError {
     /// The line, counted from 1 over all lines of the text. Where the head ends too early it is the line after the last.
     #[error("line {line}: {kind}")]
     At { line: u32, kind: ScriptKind },
+    /// Of a plan alone: with this line it may bring more than 200,000 entries.
+    #[error("line {line}: too many entries")]
+    TooLong { line: u32 },
     #[error("out of memory")]
     OutOfMemory,
 }

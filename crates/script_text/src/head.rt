@@ -1,4 +1,4 @@
-//! The lines of the head.
+//! The lines of the head of a cluster, which scripts and plans begin with.
 
 ghost use Rattle.std.specs.Prelude.{◌≡◌, length};
 ghost use Rattle.script_text.specs.Words.{words_of};
@@ -16,12 +16,12 @@ use quota_table::{Listed, Table};
 use record_codec::AppKind;
 use std::alloc::Global;
 
-/// `belfast 1`.
+/// The first line, as `belfast 1`: the due word, and the version.
 #[tactic(auto, unfolding(crate::specs::Judged::version_in))]
-pub(crate) fn version_line(line: &[u8]) -> Result<u8, LineError>
-    ensures { Says result (version_in line.now) }
+pub(crate) fn version_line(line: &[u8], due: &[u8]) -> Result<u8, LineError>
+    ensures { Says result (version_in due.now line.now) }
 {
-    let rest = after_due(line, b"belfast")?;
+    let rest = after_due(line, due)?;
     Ok(version(rest)?)
 }
 
@@ -104,7 +104,7 @@ fn homes(alloc: Global, rest: &[u8], table: &Table) -> Result<Homes, LineError>
     }
 }
 
-fn count_words(line: &[u8]) -> usize
+pub(crate) fn count_words(line: &[u8]) -> usize
     ensures { result ≡ length (words_of line.now) }
 {
     let mut count = 0;

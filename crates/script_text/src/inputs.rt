@@ -1,6 +1,6 @@
-//! The lines after the head: one input each.
+//! The lines after the head of a script: one input each. Some of their forms are those of lines of plans too.
 
-ghost use Rattle.std.specs.Prelude.{◌≡◌, ◌↔◌, ◌∷◌, drop, IsTrue};
+ghost use Rattle.std.specs.Prelude.{◌≡◌, ◌↔◌, ◌≤◌, ◌∷◌, drop, IsTrue};
 ghost use Rattle.msg_wire.specs.Nodes.{nodes_of, sequencers_of};
 ghost use Rattle.msg_wire.specs.Valid.{IsValidConfig, IsSequencerOf};
 ghost use Rattle.script_text.specs.Words.{is_printable, words_of, after_word};
@@ -48,7 +48,8 @@ fn form(alloc: Global, cfg: &Config, word: &[u8], rest: &[u8]) -> Result<Input, 
     ensures { Says result (form_of cfg.now (drop 1 (after_word rest.now)) (word.now ∷ words_of rest.now)) }
 {
     if word == b"submit".as_slice() {
-        return submit(alloc, cfg, rest);
+        let (client, body) = submit(alloc, cfg.homes.len(), rest)?;
+        return Ok(Input::Submit { client, body });
     }
     if word == b"deliver".as_slice() {
         return Ok(Input::Deliver {
@@ -71,10 +72,12 @@ fn form(alloc: Global, cfg: &Config, word: &[u8], rest: &[u8]) -> Result<Input, 
         });
     }
     if word == b"table".as_slice() {
-        return table(alloc, cfg, rest);
+        let (node, command) = table(alloc, cfg, rest)?;
+        return Ok(Input::Command { node, command });
     }
     if word == b"remove".as_slice() {
-        return remove(cfg, rest);
+        let (node, command) = remove(cfg, rest)?;
+        return Ok(Input::Command { node, command });
     }
     if word == b"drain".as_slice() {
         return drain(rest);
@@ -82,19 +85,16 @@ fn form(alloc: Global, cfg: &Config, word: &[u8], rest: &[u8]) -> Result<Input, 
     Err(LineError::Refused(ScriptKind::Word))
 }
 
-/// `submit C BODY`.
+/// `submit C BODY`: one of so many clients or submitters, and the body.
 #[tactic(auto, unfolding(crate::specs::Judged::submit_of))]
-fn submit(alloc: Global, cfg: &Config, rest: &[u8]) -> Result<Input, LineError>
-    requires { IsValidConfig cfg.now }
-    ensures { Says result (submit_of cfg.now (drop 1 (after_word rest.now)) (words_of rest.now)) }
+pub(crate) fn submit(alloc: Global, count: usize, rest: &[u8]) -> Result<(u8, Body), LineError>
+    requires { count ≤ 256 }
+    ensures { Says result (submit_of count (drop 1 (after_word rest.now)) (words_of rest.now)) }
 {
     let (word, after) = first_word(rest)?;
-    let client = number_below(word, cfg.homes.len() as u64)?;
+    let number = number_below(word, count as u64)?;
     let body = body(alloc, after)?;
-    Ok(Input::Submit {
-        client: client as u8,
-        body,
-    })
+    Ok((number as u8, body))
 }
 
 /// What follows the one space after the client, or nothing.
@@ -122,7 +122,7 @@ fn message(rest: &[u8]) -> Result<u64, ScriptKind>
 
 /// The one word, the name of a node.
 #[tactic(auto, unfolding(crate::specs::Judged::only_node_of))]
-fn only_node(cfg: &Config, rest: &[u8]) -> Result<NodeId, ScriptKind>
+pub(crate) fn only_node(cfg: &Config, rest: &[u8]) -> Result<NodeId, ScriptKind>
     requires { IsValidConfig cfg.now }
     ensures { result ≡ only_node_of cfg.now (words_of rest.now) }
 {
@@ -132,7 +132,11 @@ fn only_node(cfg: &Config, rest: &[u8]) -> Result<NodeId, ScriptKind>
 
 /// `table NODE K s:q ..`.
 #[tactic(auto, unfolding(crate::specs::Judged::table_of))]
-fn table(alloc: Global, cfg: &Config, rest: &[u8]) -> Result<Input, LineError>
+pub(crate) fn table(
+    alloc: Global,
+    cfg: &Config,
+    rest: &[u8],
+) -> Result<(NodeId, Command), LineError>
     requires { IsValidConfig cfg.now }
     ensures { Says result (table_of cfg.now (words_of rest.now)) }
 {
@@ -140,25 +144,19 @@ fn table(alloc: Global, cfg: &Config, rest: &[u8]) -> Result<Input, LineError>
     let (rounds, rows) = first_word(rest)?;
     let node = sequencer(cfg, name)?;
     let (rounds, rows) = window(alloc, rounds, rows, cfg.shards)?;
-    Ok(Input::Command {
-        node,
-        command: Command::Table { rounds, rows },
-    })
+    Ok((node, Command::Table { rounds, rows }))
 }
 
 /// `remove NODE S`.
 #[tactic(auto, unfolding(crate::specs::Judged::remove_of))]
-fn remove(cfg: &Config, rest: &[u8]) -> Result<Input, LineError>
+pub(crate) fn remove(cfg: &Config, rest: &[u8]) -> Result<(NodeId, Command), LineError>
     requires { IsValidConfig cfg.now }
     ensures { Says result (remove_of cfg.now (words_of rest.now)) }
 {
     let (name, word) = both_words(rest)?;
     let node = sequencer(cfg, name)?;
     let shard = number_below(word, u64::from(cfg.shards))?;
-    Ok(Input::Command {
-        node,
-        command: Command::Remove { shard: shard as u8 },
-    })
+    Ok((node, Command::Remove { shard: shard as u8 }))
 }
 
 /// `drain N`.

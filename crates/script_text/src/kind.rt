@@ -1,7 +1,7 @@
 use quota_table::TableError;
 use thiserror::Error;
 
-/// Why a line of a script is refused. A line that several kinds fit has the first of them.
+/// Why a line of a script or a plan is refused. A line that several kinds fit has the first of them.
 #[derive(Clone, Copy, Debug, Drop, Error, PartialEq, Eq)]
 pub enum ScriptKind {
     /// A byte is outside 0x20 to 0x7e.

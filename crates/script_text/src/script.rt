@@ -4,6 +4,7 @@ ghost use Rattle.std.specs.Prelude.{◌≡◌, ◌≤◌, ◌↔◌, IsTrue, ℕ
 ghost use Rattle.msg_wire.specs.Valid.{IsValidConfig};
 ghost use Rattle.script_text.specs.Names.{Config, Input};
 ghost use Rattle.script_text.specs.Lines.{numbers_of, counted_lines, left_of, end_of};
+ghost use Rattle.script_text.specs.Spelled.{script_word};
 ghost use Rattle.script_text.specs.Scripts.{SpellsScript, SpellsLines, lines_before};
 ghost use Rattle.script_text.specs.Judged.{version_in, seqs_in, shards_in, window_in, clients_in, consumers_in};
 ghost use Rattle.script_text.specs.Reading.{script_in, IsRefusedAt, head_in, inputs_in, due_line};
@@ -59,6 +60,7 @@ pub fn read_before(alloc: Global, text: &[u8], line: u32) -> Result<Script, OutO
         Ok(script) => Ok(script),
         Err(ScriptError::OutOfMemory) => Err(OutOfMemory),
         Err(ScriptError::At { .. }) => unreachable!(),
+        Err(ScriptError::TooLong { .. }) => unreachable!(),
     }
 }
 
@@ -91,7 +93,7 @@ fn whole_script(alloc: Global, text: &[u8]) -> Result<Script, ScriptError>
     ensures numbers { IfOk result (λ s. s.lines ≡ numbers_of (drop 6 (counted_lines text.now))) }
 {
     let mut lines = Lines::new(text);
-    let cfg = read_head(alloc, &mut lines)?;
+    let cfg = read_head(alloc, &mut lines, b"belfast")?;
     let (inputs, numbers) = read_inputs(alloc, &cfg, &mut lines)?;
     Ok(Script {
         cfg,
@@ -100,20 +102,26 @@ fn whole_script(alloc: Global, text: &[u8]) -> Result<Script, ScriptError>
     })
 }
 
-/// The cluster that the six lines of the head spell.
-fn read_head(alloc: Global, lines: &mut Lines<'_>) -> Result<Config, ScriptError>
-    ensures head { Gives (λ cfg. (cfg, left_of lines.new)) result (head_in (end_of lines.old) (left_of lines.old)) }
+/// The cluster that the six lines of its head spell, of which the first begins with the due word.
+pub(crate) fn read_head(
+    alloc: Global,
+    lines: &mut Lines<'_>,
+    word: &[u8],
+) -> Result<Config, ScriptError>
+    ensures head { Gives (λ cfg. (cfg, left_of lines.new)) result (head_in word.now (end_of lines.old) (left_of lines.old)) }
+    ensures end { end_of lines.new ≡ end_of lines.old }
     ensures valid { IfOk result IsValidConfig }
     ensures rest { IfOk result (λ _. left_of lines.new ≡ drop 6 (left_of lines.old)) }
 {
-    six_lines(alloc, lines)
+    six_lines(alloc, lines, word)
 }
 
 #[tactic(auto, unfolding(crate::specs::Reading::head_in))]
-fn six_lines(alloc: Global, lines: &mut Lines<'_>) -> Result<Config, ScriptError>
-    ensures { Gives (λ cfg. (cfg, left_of lines.new)) result (head_in (end_of lines.old) (left_of lines.old)) }
+fn six_lines(alloc: Global, lines: &mut Lines<'_>, word: &[u8]) -> Result<Config, ScriptError>
+    ensures head { Gives (λ cfg. (cfg, left_of lines.new)) result (head_in word.now (end_of lines.old) (left_of lines.old)) }
+    ensures end { end_of lines.new ≡ end_of lines.old }
 {
-    due_version(lines)?;
+    due_version(lines, word)?;
     let seqs = due_seqs(lines)?;
     let shards = due_shards(lines)?;
     let (rounds, table) = due_window(alloc, lines, shards)?;
@@ -130,12 +138,12 @@ fn six_lines(alloc: Global, lines: &mut Lines<'_>) -> Result<Config, ScriptError
     })
 }
 
-fn due_version(lines: &mut Lines<'_>) -> Result<u8, ScriptError>
-    ensures line { Gives (λ x. (x, left_of lines.new)) result (due_line (end_of lines.old) version_in (left_of lines.old)) }
+fn due_version(lines: &mut Lines<'_>, word: &[u8]) -> Result<u8, ScriptError>
+    ensures line { Gives (λ x. (x, left_of lines.new)) result (due_line (end_of lines.old) (version_in word.now) (left_of lines.old)) }
     ensures end { end_of lines.new ≡ end_of lines.old }
 {
     let line = due(lines)?;
-    at(line.number, version_line(line.bytes))
+    at(line.number, version_line(line.bytes, word))
 }
 
 fn due_seqs(lines: &mut Lines<'_>) -> Result<u8, ScriptError>
@@ -178,8 +186,8 @@ fn due_consumers(lines: &mut Lines<'_>) -> Result<(u8, AppKind), ScriptError>
     at(line.number, consumers_line(line.bytes))
 }
 
-/// The next line of the head. Where none is left, the line after the text's last one is refused.
-fn due<'a>(lines: &mut Lines<'a>) -> Result<Line<'a>, ScriptError>
+/// The next line of a head. Where none is left, the line after the text's last one is refused.
+pub(crate) fn due<'a>(lines: &mut Lines<'a>) -> Result<Line<'a>, ScriptError>
     ensures line { MatchResult result
         (λ l. left_of lines.old ≡ record { number = l.number; bytes = l.bytes.now } ∷ left_of lines.new)
         (λ e. (left_of lines.old ≡ []) × (e ≡ ScriptError.At (end_of lines.old) ScriptKind.Header)) }
@@ -195,7 +203,7 @@ fn due<'a>(lines: &mut Lines<'a>) -> Result<Line<'a>, ScriptError>
 }
 
 /// What was read of a line, with the line's number at an error.
-fn at<T>(number: u32, judged: Result<T, LineError>) -> Result<T, ScriptError>
+pub(crate) fn at<T>(number: u32, judged: Result<T, LineError>) -> Result<T, ScriptError>
     ensures ok { IfOk judged (λ x. result ≡ Ok x) }
     ensures err { IfErr judged (λ e. result ≡ Err (placed number e)) }
 {

@@ -74,6 +74,7 @@ fn play_whole(alloc: Global, text: &[u8]) -> Result<Played, Fault>
     match read_script(alloc, text) {
         Ok(script) => play_script(alloc, &script),
         Err(ScriptError::At { line, kind }) => Err(refused_at(alloc, text, line, kind)),
+        Err(ScriptError::TooLong { .. }) => unreachable!(),
         Err(ScriptError::OutOfMemory) => Err(Fault::OutOfMemory),
     }
 }
