@@ -33,11 +33,11 @@ use Rattle.report_text.proofs.Submissions.{IsSubmitted, IsSubmitted-none, IsSubm
 -- ---- members of a list, each with its number
 
 -- it holds of each member, with its number
-abbrev Numbered : {A : Type 0} → (ℕ → A → Type 0) → ℕ → List A → Type 0
+abbrev pub Numbered : {A : Type 0} → (ℕ → A → Type 0) → ℕ → List A → Type 0
 Numbered P n [] = Unit {0}
 Numbered P n (x ∷ xs) = P n x × Numbered P (n + 1) xs
 
-Numbered-weaker : {A : Type 0} (P Q : ℕ → A → Type 0) (n : ℕ) (xs : List A) → ((m : ℕ) (x : A) → n ≤ m → P m x → Q m x) → Numbered P n xs → Numbered Q n xs
+pub Numbered-weaker : {A : Type 0} (P Q : ℕ → A → Type 0) (n : ℕ) (xs : List A) → ((m : ℕ) (x : A) → n ≤ m → P m x → Q m x) → Numbered P n xs → Numbered Q n xs
 Numbered-weaker P Q n [] step h = tt
 Numbered-weaker P Q n (x ∷ xs) step h = (step n x (omega arith) h.0, Numbered-weaker P Q (n + 1) xs (λ m y above. step m y (omega arith)) h.1)
 
@@ -64,7 +64,7 @@ length-changed f [] at = refl
 length-changed f (x ∷ xs) zero = refl
 length-changed f (x ∷ xs) (suc at) = ap length (changed-later f x xs at) ∙ ap suc (length-changed f xs at)
 
-numbered_lines-is : {A : Type 0} (f : ℕ → A → List ℕ) (g : ℕ → List ℕ) (n : ℕ) (xs : List A) → Numbered (λ m x. f m x ≡ g m) n xs
+pub numbered_lines-is : {A : Type 0} (f : ℕ → A → List ℕ) (g : ℕ → List ℕ) (n : ℕ) (xs : List A) → Numbered (λ m x. f m x ≡ g m) n xs
     → numbered_lines f n xs ≡ flat_map g (range_with_len n (length xs))
 numbered_lines-is f g n [] h = refl
 numbered_lines-is f g n (x ∷ xs) h = ap (λ first. first ++ numbered_lines f (n + 1) xs) h.0 ∙ ap (λ rest. g n ++ rest) (numbered_lines-is f g (n + 1) xs h.1)
@@ -168,7 +168,7 @@ confirmed-stays g (e ∷ entries) = confirmed-stays (with_entry g e) entries
 told-all : (cfg : Config) (history : List HistoryEntry) → (gathered_of cfg history).told ≡ with_messages [] (sent (past_of history))
 told-all cfg history = told-stays (before_entries cfg (sent (past_of history)) (shown (past_of history))) history
 
-confirmed-all : (cfg : Config) (history : List HistoryEntry) → (gathered_of cfg history).confirmed ≡ with_marks [] (shown (past_of history))
+pub confirmed-all : (cfg : Config) (history : List HistoryEntry) → (gathered_of cfg history).confirmed ≡ with_marks [] (shown (past_of history))
 confirmed-all cfg history = confirmed-stays (before_entries cfg (sent (past_of history)) (shown (past_of history))) history
 
 pub gathered_lines-is : (cfg : Config) (history : List HistoryEntry) → gathered_lines cfg (length history) (gathered_of cfg history) ≡ report_of cfg history

@@ -7,3 +7,4 @@ pub mod Confirmations
 pub mod Consumptions
 pub mod Submissions
 pub mod Gatherings
+pub mod Summations

@@ -6,3 +6,4 @@ pub mod Clients
 pub mod Report
 pub mod Worked
 pub mod inside
+pub mod Summary

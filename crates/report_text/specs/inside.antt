@@ -6,3 +6,4 @@ pub mod Kept
 pub mod Numbers
 pub mod Submitting
 pub mod Gathering
+pub mod Summing

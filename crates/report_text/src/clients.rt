@@ -1,6 +1,6 @@
 //! What a client was given, and what it showed.
 
-ghost use Rattle.std.specs.Prelude.{◌≡◌, ◌++◌, OnOk};
+ghost use Rattle.std.specs.Prelude.{◌≡◌, ◌++◌, length, OnOk};
 ghost use Rattle.runs.specs.Marks.{acks};
 ghost use Rattle.report_text.specs.Clients.{client_line, ack_line};
 ghost use Rattle.report_text.specs.inside.Submitting.{nothing_submitted, with_own_entry, submitted_lines};
@@ -50,6 +50,20 @@ impl<'a> ClientMarks<'a> {
             self.submitted.push(body)?;
         }
         put_acks(&mut self.acked, entry.marks())
+    }
+
+    /// How many bodies it was given.
+    pub fn submitted(&self) -> usize
+        ensures { result ≡ length self.now.bodies }
+    {
+        self.submitted.len()
+    }
+
+    /// How many acknowledgements it showed.
+    pub fn acked(&self) -> usize
+        ensures { result ≡ length self.now.acked }
+    {
+        self.acked.len()
     }
 
     /// Puts its lines at the end.

@@ -1,10 +1,12 @@
 //! What a consumer showed.
 
 ghost use Rattle.std.specs.Prelude.{◌≡◌, ◌+◌, ◌-◌, ◌++◌, map, take, length, OnOk};
+ghost use Rattle.report_text.specs.inside.Summing.{confirms_data, data_among, summed_consumer};
 ghost use Rattle.report_text.specs.inside.Consuming.{nothing_consumed, is_applied_before, with_own_mark, with_own_marks, consumed_lines};
 
 use crate::by_number::ByNumber;
 use crate::consumer_lines::{Counts, put_counts, put_notices, put_output, put_state, shown_after};
+use crate::summary_lines::put_data;
 use crate::text::Put;
 use msg_wire::{Config, Mark};
 use quota_table::Bytes;
@@ -108,6 +110,14 @@ impl<'a> ConsumerMarks<'a> {
         }
     }
 
+    /// Puts how many records of clients it confirmed, and what it shows, at the end.
+    pub fn write_summary(&self, cfg: &Config, number: u64, text: &mut Bytes) -> Put
+        ensures { OnOk result (text.new ≡ text.old ++ summed_consumer cfg.now number self.now) }
+    {
+        put_data(text, number, count_data(self.marks.as_slice()))?;
+        put_state(text, number, &shown_after(cfg.app, self.log.as_slice()))
+    }
+
     /// Puts its lines at the end.
     pub fn write(&self, cfg: &Config, number: u64, text: &mut Bytes) -> Put
         ensures { OnOk result (text.new ≡ text.old ++ consumed_lines cfg.now number self.now) }
@@ -125,6 +135,23 @@ impl<'a> ConsumerMarks<'a> {
         put_notices(text, number, notices)?;
         text.extend_from_slice(self.out_lines.as_slice())?;
         put_state(text, number, &shown_after(cfg.app, log))
+    }
+}
+
+/// How many of the marks confirm a record of a client.
+fn count_data(marks: &[&Mark]) -> usize
+    ensures { result ≡ data_among (map (λ m. m.now) marks.now) }
+{
+    marks.iter().filter(|mark| confirms_data(mark)).count()
+}
+
+/// Whether a mark confirms a record of a client, and no filled place.
+fn confirms_data(mark: &Mark) -> bool
+    ensures { result ≡ confirms_data mark.now }
+{
+    match mark {
+        Mark::Confirm { rec, .. } => matches!(rec, Record::Data { .. }),
+        _ => false,
     }
 }
 

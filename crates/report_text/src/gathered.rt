@@ -9,12 +9,14 @@ ghost use Rattle.report_text.specs.inside.Consuming.{nothing_consumed, consumed_
 ghost use Rattle.report_text.specs.inside.Submitting.{nothing_submitted, submitted_lines, with_own_entry};
 ghost use Rattle.report_text.specs.Positions.{differ_line};
 ghost use Rattle.report_text.specs.Report.{head_lines};
+ghost use Rattle.report_text.specs.inside.Summing.{all_submitted, all_acked, summed_consumer, summed_lines};
 ghost use Rattle.report_text.specs.inside.Gathering.{changed_at, with_entry, gathered_of, numbered_lines, gathered_lines};
 
 use crate::clients::ClientMarks;
 use crate::consumers::ConsumerMarks;
 use crate::positions::ConfirmedLog;
 use crate::slots::ToldSlots;
+use crate::summary_lines::{put_quiet, put_totals};
 use crate::text::{Put, put_counted};
 use msg_wire::{Config, Mark};
 use net_model::{EntryRef, History};
@@ -122,6 +124,17 @@ impl<'a> Gathered<'a> {
         write_clients(self.clients.as_slice(), text)?;
         put_differing(text, self.confirmed.differing(alloc)?)
     }
+
+    /// Puts the summary of all that was gathered at the end.
+    pub fn write_summary(&self, alloc: Global, cfg: &Config, quiet: bool, text: &mut Bytes) -> Put
+        ensures { OnOk result (text.new ≡ text.old ++ summed_lines cfg.now quiet self.now) }
+    {
+        let clients = self.clients.as_slice();
+        put_totals(text, all_submitted(clients), all_acked(clients))?;
+        summarize_consumers(cfg, self.consumers.as_slice(), text)?;
+        put_differing(text, self.confirmed.differing(alloc)?)?;
+        put_quiet(text, quiet)
+    }
 }
 
 fn take_consumer<'a>(consumers: &mut Vec<ConsumerMarks<'a>>, number: u8, marks: &'a [Mark]) -> Put
@@ -149,6 +162,37 @@ fn write_consumers(cfg: &Config, consumers: &[ConsumerMarks], text: &mut Bytes) 
         consumer.write(cfg, number as u64, text)?;
     }
     Ok(())
+}
+
+fn summarize_consumers(cfg: &Config, consumers: &[ConsumerMarks], text: &mut Bytes) -> Put
+    ensures { OnOk result (text.new ≡ text.old ++ numbered_lines (summed_consumer cfg.now) 0 consumers.now) }
+{
+    for (number, consumer) in consumers.iter().enumerate() {
+        consumer.write_summary(cfg, number as u64, text)?;
+    }
+    Ok(())
+}
+
+/// How many bodies all clients were given.
+fn all_submitted(clients: &[ClientMarks]) -> u128
+    ensures { result ≡ all_submitted clients.now }
+{
+    let mut all = 0;
+    for client in clients {
+        all += client.submitted() as u128;
+    }
+    all
+}
+
+/// How many acknowledgements all clients showed.
+fn all_acked(clients: &[ClientMarks]) -> u128
+    ensures { result ≡ all_acked clients.now }
+{
+    let mut all = 0;
+    for client in clients {
+        all += client.acked() as u128;
+    }
+    all
 }
 
 fn write_clients(clients: &[ClientMarks], text: &mut Bytes) -> Put

@@ -4,7 +4,7 @@ ghost use Rattle.msg_wire.specs.Valid.{IsValidConfig};
 ghost use Rattle.msg_wire.specs.Steps.{AreValidMessages};
 ghost use Rattle.net_model.specs.Pasts.{past_of, sent};
 
-use crate::report;
+use crate::{report, summary};
 use msg_wire::{Config, Event, Homes, Mark, Marks, Message, Messages, What};
 use net_model::{History, HistoryEntry};
 use quota_table::{Asked, Bytes, Entry, OutOfMemory, Table, check};
@@ -422,6 +422,64 @@ log 3 c0 0 \nconsumer k0 confirmed 3 applied 1 early 1 undone 0 notices 0
 state k0 sum 0 count 0
 client c0 submitted 0 acked 0
 differ 1
+";
+    assert_eq!(rt; text.as_slice(), expected.as_slice());
+    Ok(())
+}
+
+#[test]
+fn summaries_of_nothing_and_of_a_record(rt: HostRuntime) -> Result<(), Fail> {
+    let alloc = rt.alloc();
+    let cfg = small(alloc)?;
+    let mut history = History::new(alloc);
+    let nothing = b"belfast-run 1
+submitted 0
+acked 0
+consumer k0 data 0
+state k0 sum 0 count 0
+differ 0
+quiet no
+";
+    let text = summary(alloc, &cfg, &history, false)?;
+    assert_eq!(rt; text.as_slice(), nothing.as_slice());
+    first_record(alloc, &mut history)?;
+    first_confirmed(alloc, &mut history)?;
+    let one = b"belfast-run 1
+submitted 1
+acked 1
+consumer k0 data 1
+state k0 sum 5 count 1
+differ 0
+quiet yes
+";
+    let text = summary(alloc, &cfg, &history, true)?;
+    assert_eq!(rt; text.as_slice(), one.as_slice());
+    Ok(())
+}
+
+#[test]
+fn a_summary_counts_the_records_of_clients(rt: HostRuntime) -> Result<(), Fail> {
+    let alloc = rt.alloc();
+    let cfg = wide(alloc)?;
+    let mut history = History::new(alloc);
+    lost_position(alloc, &mut history)?;
+    applied_anew(alloc, &mut history)?;
+    acknowledged(alloc, &mut history)?;
+    let filled = Mark::Confirm {
+        position: 2,
+        rec: Record::Noop,
+    };
+    show(alloc, &mut history, K0, filled)?;
+    let other = NodeId::Shard(1, Side::Backup);
+    show(alloc, &mut history, other, confirm(alloc, 2, 0, b"9")?)?;
+    let text = summary(alloc, &cfg, &history, true)?;
+    let expected = b"belfast-run 1
+submitted 2
+acked 2
+consumer k0 data 2
+state k0 sum 12 count 2
+differ 1
+quiet yes
 ";
     assert_eq!(rt; text.as_slice(), expected.as_slice());
     Ok(())

@@ -15,3 +15,11 @@ pub fn put_counted(text: &mut Bytes, words: &[u8], number: u64) -> Put
     text.extend_from_slice(words)?;
     text.extend_from_slice(Buffer::new().format(number).as_bytes())
 }
+
+/// The same with a sum of lengths, which may need more bits than one length has.
+pub fn put_total(text: &mut Bytes, words: &[u8], number: u128) -> Put
+    ensures { OnOk result (text.new ≡ text.old ++ counted words.now number) }
+{
+    text.extend_from_slice(words)?;
+    text.extend_from_slice(Buffer::new().format(number).as_bytes())
+}

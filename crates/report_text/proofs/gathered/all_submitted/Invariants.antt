@@ -1,0 +1,9 @@
+use Rattle.std.proofs.Common.{◌≡◌, ◌≤◌, ◌+◌, ◌*◌, ◌^◌, drop}
+use Rattle.report_text.specs.inside.Summing.{all_submitted}
+use Rattle.report_text.proofs.gathered.all_submitted.Given as goal
+
+abbrev pub invariant-loop-client : goal.invariant-loop-client
+invariant-loop-client l = record {
+  sum : l.all + all_submitted (drop l.client-index l.clients) ≡ all_submitted l.clients;
+  room : l.all ≤ l.client-index * 2 ^ 64;
+}
