@@ -1,0 +1,5 @@
+pub mod Names
+pub mod Counts
+pub mod Eaches
+pub mod Forward
+pub mod Breaks
