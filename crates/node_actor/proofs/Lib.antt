@@ -1,0 +1,6 @@
+pub mod Keeping
+pub mod LaneLemmas
+pub mod Loading
+pub mod Pulling
+pub mod Results
+pub mod Turning

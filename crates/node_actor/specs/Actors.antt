@@ -1,0 +1,35 @@
+-- A node as it takes turns, and what is between two moments of it.
+use Rattle.std.specs.Prelude.{◌≡◌, List, ◌++◌, Option, None, Some}
+use Rattle.net_model.specs.declared.journal.Stamped.{Stamped}
+use Rattle.net_model.specs.declared.model.NodeModel.{Ghosts as NodeRules}
+use Rattle.spec_base.specs.declared.disk.Disk.{Ghosts as DiskRules}
+use Rattle.node_actor.specs.declared.actor.NodeActor.{NodeActor}
+use Rattle.node_actor.specs.declared.stopped.Stopped.{Stopped}
+use Rattle.node_actor.specs.declared.stopped.Stopped.TheVariants as stops
+use Rattle.node_actor.specs.Cores.{steps_of, IsReady, IsInStep, Turned, KeepsDisk, IsFaulty}
+use Rattle.node_actor.specs.Ins.{links_to, AreTaken}
+
+module _ {N D : Type 0} where
+  -- unless it was stopped, it can take a step
+  abbrev pub CanGoOn : NodeRules N → NodeActor N D → Type 0
+  CanGoOn rules actor = actor.stopped ≡ None → IsReady rules actor.core
+
+  -- its core is in step, and each message that it took came on the link from its sender, with a smaller stamp
+  pub record IsSound (rules : NodeRules N) (disk : DiskRules D) (actor : NodeActor N D) : Type 0 where
+    pub in_step : IsInStep rules disk actor.core
+    pub taken : AreTaken actor.core.cfg actor.ins.items (steps_of actor.core)
+
+  -- it took these steps, and what it took came so
+  pub record WentOn (rules : NodeRules N) (disk : DiskRules D) (before after : NodeActor N D) : Type 0 where
+    pub more : List Stamped
+    pub turned : Turned rules disk more before.core after.core before.outs.items after.outs.items
+    pub links : links_to after.ins.items ≡ links_to before.ins.items
+    pub taken : AreTaken before.core.cfg before.ins.items (steps_of before.core) → AreTaken after.core.cfg after.ins.items (steps_of after.core)
+
+  -- from one moment to a later one: where it isn't stopped it went on, and once it is stopped it stays as it is
+  pub record Moved (rules : NodeRules N) (disk : DiskRules D) (before after : NodeActor N D) : Type 0 where
+    pub goes : after.stopped ≡ None → WentOn rules disk before after
+    pub was : after.stopped ≡ None → before.stopped ≡ None
+    pub rests : (why : Stopped) → before.stopped ≡ Some why → after ≡ before
+    pub keeps : KeepsDisk disk before.core after.core
+    pub faulty : before.stopped ≡ None → after.stopped ≡ Some stops.Disk → IsFaulty disk before.core after.core
