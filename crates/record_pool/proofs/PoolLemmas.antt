@@ -1,0 +1,399 @@
+-- What the calls of a pool leave of its chains.
+use Rattle.std.proofs.Common.{◌≡◌, ◌≢◌, ◌⊎◌, ℕ, zero, suc, ◌+◌, ◌-◌, ◌*◌, ◌^◌, ◌<◌, ◌≤◌, take, drop, mul-zero, eqb, true, false, List, [], ◌∷◌, ◌++◌, length, get_or, set, sum, sum_by, replicate, refl, sym, ap, ◌∙◌, subst, inl, inr, append_assoc, arith, length-set, ext_get_or, get_or-set_same, get_or-set_other}
+use Rattle.std.specs.List.{concat}
+use Rattle.std.specs.Int.{div_ceil}
+use Rattle.std.proofs.Math.Nat.{le-max_left, le-max_right}
+use Rattle.std.proofs.lemmas.Grind.{div_ceil_times}
+use Rattle.std.proofs.lemmas.Bool.Decides.{eqb_tells}
+use Rattle.std.proofs.lemmas.List.{take-append-le, take_all, length-replicate, get_or_past}
+use Rattle.std.proofs.lemmas.List.Folds.{sum_by-replicate}
+use Rattle.std.proofs.lemmas.List.Sums.{sum_by-set}
+use Rattle.record_pool.specs.Chains.{chain, walk, contents, put_all, numbers_from}
+use Rattle.record_pool.specs.Pools.{PoolState, Ref, laid_out, blocks_for, with_bytes, without, fresh_pool, chain_at, bytes_of, Belongs, Keeps, KeepsOthers}
+use Rattle.record_pool.specs.inside.Kept.{Misses, Apart, Differ, Below, chains_from, chain_from, IsWhole}
+use Rattle.record_pool.proofs.ListLemmas.{Apart-at, Apart-nil, Apart-append, Apart-front, Apart-back, Apart-flip, Differ-append, Differ-front, Differ-back, Differ-apart, Below-append, Below-front, Below-back}
+use Rattle.record_pool.proofs.ChainLemmas.{sum-chains_from, length-chains_from, get_or-chains_from, length-chain, length-contents, length-laid_out, length-put, chain-add, chain-set, walk-set, contents-put_other, contents-put_same, bytes-laid_out, length-numbers_from}
+
+pub all-blocks : (blocks : List (List ℕ)) (next counts : List ℕ) (head free : ℕ) (pool : PoolState) → IsWhole next counts head free (length blocks)
+    → record { free = free; chains = chains_from blocks next 0 counts } ≡ pool → pool.free + sum_by length pool.chains ≡ length pool.chains
+all-blocks blocks next counts head free pool whole is =
+    let P : PoolState → Type 0 = λ p. p.free + sum_by length p.chains ≡ length p.chains in
+    let before : free + sum_by length (chains_from blocks next 0 counts) ≡ length (chains_from blocks next 0 counts) =
+    ap (λ n. free + n) (sum-chains_from blocks next 0 counts) ∙ whole.all ∙ sym (length-chains_from blocks next 0 counts ∙ whole.counted) in
+    subst P is before
+
+-- what holds at each place of a list of which one place is set
+at-set : (P : ℕ → ℕ → Type 0) (counts : List ℕ) (i v : ℕ) → i < length counts → ((n : ℕ) → n ≢ i → P n (get_or counts n 0)) → P i v
+    → (n : ℕ) → P n (get_or (set counts i v) n 0)
+at-set P counts i v h others here n = elim (eqb_tells n i) [
+  | inl e ↦ subst (λ m. P m (get_or (set counts i v) m 0)) (sym e.1) (subst (P i) (sym (get_or-set_same counts i v 0 h)) here)
+  | inr e ↦ subst (P n) (sym (get_or-set_other counts i n v 0 e.1)) (others n e.1)
+]
+
+-- the chains where that of one block is another now, with other free blocks
+whole-set : (next next' counts : List ℕ) (head head' free free' i v total : ℕ) → IsWhole next counts head free total → i < length counts → length next' ≡ total
+    → ((n : ℕ) → n ≢ i → chain next' n (get_or counts n 0) ≡ chain next n (get_or counts n 0))
+    → Below total (chain next' i v) → Differ (chain next' i v) → Below total (chain next' head' free') → Differ (chain next' head' free')
+    → Apart (chain next' i v) (chain next' head' free')
+    → ((n : ℕ) → n ≢ i → Apart (chain_from next counts n) (chain next' i v)) → ((n : ℕ) → n ≢ i → Apart (chain_from next counts n) (chain next' head' free'))
+    → free' + v ≡ free + get_or counts i 0
+    → IsWhole next' (set counts i v) head' free' total
+whole-set next next' counts head head' free free' i v total whole at links keep below differ free_below free_differ apart aparts free_aparts count =
+    let counts' : List ℕ = set counts i v in
+    let changed : sum counts' + get_or counts i 0 ≡ sum counts + v = sum_by-set (λ x. x) counts i v 0 at in
+    let from : (n : ℕ) → n ≢ i → (m : ℕ) → n ≢ m → Apart (chain next' n (get_or counts n 0)) (chain next' m (get_or counts' m 0)) =
+    λ n other. at-set (λ m c. n ≢ m → Apart (chain next' n (get_or counts n 0)) (chain next' m c)) counts i v at
+    (λ m another differs. rw (keep n other, keep m another) (whole.apart n m differs))
+    (λ _. rw (keep n other) (aparts n other)) in
+    record {
+      small = whole.small;
+      links = links;
+      counted = length-set counts i v ∙ whole.counted;
+      free_below = free_below;
+      free_differ = free_differ;
+      below = at-set (λ n c. Below total (chain next' n c)) counts i v at (λ n other. rw (keep n other) (whole.below n)) below;
+      differ = at-set (λ n c. Differ (chain next' n c)) counts i v at (λ n other. rw (keep n other) (whole.differ n)) differ;
+      apart = at-set (λ n c. (m : ℕ) → n ≢ m → Apart (chain next' n c) (chain next' m (get_or counts' m 0))) counts i v at from
+          (at-set (λ m c. i ≢ m → Apart (chain next' i v) (chain next' m c)) counts i v at
+          (λ m other _. rw (keep m other) (Apart-flip (chain_from next counts m) (chain next' i v) (aparts m other)))
+          (λ same. absurd (same refl)));
+      free_apart = at-set (λ n c. Apart (chain next' n c) (chain next' head' free')) counts i v at (λ n other. rw (keep n other) (free_aparts n other)) apart;
+      all = let before : free + sum counts ≡ total = whole.all in omega arith;
+    }
+
+-- what callers see of a chain
+pub seen_at : (blocks : List (List ℕ)) (next counts : List ℕ) (n : ℕ) → get_or (chains_from blocks next 0 counts) n [] ≡ contents blocks (chain_from next counts n)
+seen_at blocks next counts n = let e : 0 + n ≡ n = omega arith in get_or-chains_from blocks next 0 counts n ∙ ap (λ m. contents blocks (chain next m (get_or counts n 0))) e
+
+-- what callers see of the chains then
+chains-set : (blocks blocks' : List (List ℕ)) (next next' counts : List ℕ) (i v : ℕ) (bytes : List (List ℕ)) → i < length counts
+    → ((n : ℕ) → n ≢ i → contents blocks' (chain next' n (get_or counts n 0)) ≡ contents blocks (chain next n (get_or counts n 0)))
+    → contents blocks' (chain next' i v) ≡ bytes
+    → chains_from blocks' next' 0 (set counts i v) ≡ set (chains_from blocks next 0 counts) i bytes
+chains-set blocks blocks' next next' counts i v bytes at others here =
+    let counts' : List ℕ = set counts i v in
+    let old : List (List (List ℕ)) = chains_from blocks next 0 counts in
+    let long : length old ≡ length counts = length-chains_from blocks next 0 counts in
+    let inside : i < length old = omega (arith, long, at) in
+    let seen : (n : ℕ) → contents blocks' (chain next' n (get_or counts' n 0)) ≡ get_or (set old i bytes) n [] =
+    at-set (λ n c. contents blocks' (chain next' n c) ≡ get_or (set old i bytes) n []) counts i v at
+    (λ n other. others n other ∙ sym (get_or-set_other old i n bytes [] other ∙ seen_at blocks next counts n))
+    (here ∙ sym (get_or-set_same old i bytes [] inside)) in
+    ext_get_or [] (chains_from blocks' next' 0 counts') (set old i bytes)
+    (length-chains_from blocks' next' 0 counts' ∙ length-set counts i v ∙ sym (length-set old i bytes ∙ long))
+    (λ n _. seen_at blocks' next' counts' n ∙ seen n)
+
+-- taking the first free blocks
+pub none-at-head : (next : List ℕ) (head count free : ℕ) → 1 ≤ free → Apart (chain next head count) (chain next head free) → count ≡ 0
+none-at-head next head zero free h a = refl
+none-at-head next head (suc count) zero h a = omega arith
+none-at-head next head (suc count) (suc free) h a = absurd (a.0.0 refl)
+
+pub free-split : (next : List ℕ) (head count free : ℕ) → count ≤ free
+    → chain next head free ≡ chain next head count ++ chain next (walk next head count) (free - count)
+free-split next head count free h = let e : free ≡ count + (free - count) = omega arith in ap (chain next head) e ∙ chain-add next head count (free - count)
+
+pub taken-below : (next counts : List ℕ) (head free total count : ℕ) → IsWhole next counts head free total → count ≤ free → Below total (chain next head count)
+taken-below next counts head free total count whole h =
+    Below-front total (chain next head count) (chain next (walk next head count) (free - count)) (subst (Below total) (free-split next head count free h) whole.free_below)
+
+pub head-below : (next counts : List ℕ) (head free total : ℕ) → IsWhole next counts head free total → 1 ≤ free → head < total
+head-below next counts head free total whole h = (taken-below next counts head free total 1 whole h).0
+
+pub whole-taken : (next counts : List ℕ) (head free total count : ℕ) → IsWhole next counts head free total → 1 ≤ count → count ≤ free
+    → IsWhole next (set counts head count) (walk next head count) (free - count) total
+whole-taken next counts head free total count whole some room =
+    let front : List ℕ = chain next head count in
+    let back : List ℕ = chain next (walk next head count) (free - count) in
+    let split : chain next head free ≡ front ++ back = free-split next head count free room in
+    let at : head < length counts = omega (arith, head-below next counts head free total whole (omega arith), whole.counted) in
+    let none : get_or counts head 0 ≡ 0 = none-at-head next head (get_or counts head 0) free (omega arith) (whole.free_apart head) in
+    let apart : (n : ℕ) → Apart (chain_from next counts n) (front ++ back) = λ n. subst (Apart (chain_from next counts n)) split (whole.free_apart n) in
+    let differ : Differ (front ++ back) = subst Differ split whole.free_differ in
+    whole-set next next counts head (walk next head count) free (free - count) head count total whole at whole.links (λ n _. refl)
+    (taken-below next counts head free total count whole room) (Differ-front front back differ)
+    (Below-back total front back (subst (Below total) split whole.free_below)) (Differ-back front back differ) (Differ-apart front back differ)
+    (λ n _. Apart-front (chain_from next counts n) front back (apart n)) (λ n _. Apart-back (chain_from next counts n) front back (apart n))
+    (omega arith)
+
+pub seen-taken : (blocks : List (List ℕ)) (next counts : List ℕ) (head free count : ℕ) (bytes : List ℕ) → IsWhole next counts head free (length blocks)
+    → 1 ≤ count → count ≤ free
+    → chains_from (put_all blocks (chain next head count) (laid_out count bytes)) next 0 (set counts head count)
+    ≡ set (chains_from blocks next 0 counts) head (laid_out count bytes)
+seen-taken blocks next counts head free count bytes whole some room =
+    let front : List ℕ = chain next head count in
+    let back : List ℕ = chain next (walk next head count) (free - count) in
+    let split : chain next head free ≡ front ++ back = free-split next head count free room in
+    let at : head < length counts = omega (arith, head-below next counts head free (length blocks) whole (omega arith), whole.counted) in
+    let others : (n : ℕ) → Apart front (chain_from next counts n) =
+    λ n. Apart-flip (chain_from next counts n) front (Apart-front (chain_from next counts n) front back (subst (Apart (chain_from next counts n)) split (whole.free_apart n))) in
+    chains-set blocks (put_all blocks front (laid_out count bytes)) next next counts head count (laid_out count bytes) at
+    (λ n _. contents-put_other blocks front (laid_out count bytes) (chain_from next counts n) (others n))
+    (contents-put_same blocks front (laid_out count bytes) (Differ-front front back (subst Differ split whole.free_differ))
+    (taken-below next counts head free (length blocks) count whole room) (length-laid_out count bytes ∙ sym (length-chain next head count)))
+
+-- giving a chain back
+module _ (next counts : List ℕ) (head free total first c : ℕ) (whole : IsWhole next counts head free total) (has : get_or counts first 0 ≡ suc c) where
+  parted : chain next first (suc c) ≡ chain next first c ++ walk next first c ∷ []
+  parted = let e : suc c ≡ c + 1 = omega arith in ap (chain next first) e ∙ chain-add next first c 1
+
+  here : chain_from next counts first ≡ chain next first c ++ walk next first c ∷ []
+  here = ap (chain next first) has ∙ parted
+
+  pub front-below : Below total (chain next first c)
+  front-below = Below-front total (chain next first c) (walk next first c ∷ []) (subst (Below total) here (whole.below first))
+
+  pub last-below : walk next first c < total
+  last-below = (Below-back total (chain next first c) (walk next first c ∷ []) (subst (Below total) here (whole.below first))).0
+
+  last-misses : (ns : List ℕ) → Apart (chain_from next counts first) ns → Misses (walk next first c) ns
+  last-misses ns apart = Apart-at (chain next first c) [] ns (walk next first c) (subst (λ ms. Apart ms ns) here apart)
+
+  last-misses_front : Misses (walk next first c) (chain next first c)
+  last-misses_front =
+      (Apart-flip (chain next first c) (walk next first c ∷ []) (Differ-apart (chain next first c) (walk next first c ∷ []) (subst Differ here (whole.differ first)))).0
+
+  keeps : (n : ℕ) → n ≢ first → chain (set next (walk next first c) head) n (get_or counts n 0) ≡ chain next n (get_or counts n 0)
+  keeps n other = chain-set next (walk next first c) head n (get_or counts n 0) (last-misses (chain_from next counts n) (whole.apart first n (λ e. other (sym e))))
+
+  given : chain (set next (walk next first c) head) first (free + suc c) ≡ chain_from next counts first ++ chain next head free
+  given =
+      let next' : List ℕ = set next (walk next first c) head in
+      let e : free + suc c ≡ c + suc free = omega arith in
+      let f : walk next' first c ≡ walk next first c = walk-set next (walk next first c) head first c last-misses_front in
+      let g : chain next' first c ≡ chain next first c = chain-set next (walk next first c) head first c last-misses_front in
+      let at : walk next first c < length next = omega (arith, last-below, whole.links) in
+      let h : get_or next' (walk next first c) 0 ≡ head = get_or-set_same next (walk next first c) head 0 at in
+      let k : chain next' head free ≡ chain next head free = chain-set next (walk next first c) head head free (last-misses (chain next head free) (whole.free_apart first)) in
+      let goes_on : chain next' (walk next' first c) (suc free) ≡ walk next first c ∷ chain next head free =
+      ap (λ m. chain next' m (suc free)) f ∙ ap (λ m. walk next first c ∷ chain next' m free) h ∙ ap (λ ns. walk next first c ∷ ns) k in
+      ap (chain next' first) e ∙ chain-add next' first c (suc free) ∙ ap (λ ns. ns ++ chain next' (walk next' first c) (suc free)) g
+      ∙ ap (λ ns. chain next first c ++ ns) goes_on ∙ sym (ap (λ ns. ns ++ chain next head free) here ∙ append_assoc (chain next first c) (walk next first c ∷ []) (chain next head free))
+
+  pub whole-given : first < length counts → IsWhole (set next (walk next first c) head) (set counts first 0) first (free + suc c) total
+  whole-given at =
+      let next' : List ℕ = set next (walk next first c) head in
+      let own : List ℕ = chain_from next counts first in
+      let frees : List ℕ = chain next head free in
+      whole-set next next' counts head first free (free + suc c) first 0 total whole at (length-set next (walk next first c) head ∙ whole.links) keeps
+      tt tt
+      (subst (Below total) (sym given) (Below-append total own frees (whole.below first) whole.free_below))
+      (subst Differ (sym given) (Differ-append own frees (whole.differ first) whole.free_differ (whole.free_apart first)))
+      tt
+      (λ n _. Apart-nil (chain_from next counts n))
+      (λ n other. subst (Apart (chain_from next counts n)) (sym given) (Apart-append (chain_from next counts n) own frees (whole.apart n first other) (whole.free_apart n)))
+      (omega (arith, has))
+
+  pub seen-given : (blocks : List (List ℕ)) → first < length counts
+      → chains_from blocks (set next (walk next first c) head) 0 (set counts first 0) ≡ set (chains_from blocks next 0 counts) first []
+  seen-given blocks at = chains-set blocks blocks next (set next (walk next first c) head) counts first 0 [] at (λ n other. ap (contents blocks) (keeps n other)) refl
+
+-- what was taken belongs to the pool, and names its bytes
+pub some-blocks : (len : ℕ) → 1 ≤ blocks_for len
+some-blocks len = le-max_right (div_ceil len 64) 1
+
+pub blocks-hold : (len : ℕ) → len ≤ 64 * blocks_for len
+blocks-hold len =
+    let enough : len ≤ (div_ceil len 64) * 64 = (div_ceil_times len 64 (omega arith)).0 in
+    let most : div_ceil len 64 ≤ blocks_for len = le-max_left (div_ceil len 64) 1 in
+    omega (arith, enough, most)
+
+pub belongs-taken : (old new : PoolState) (item : Ref) (bytes : List ℕ) → item.first < length old.chains → item.len ≡ length bytes → new ≡ with_bytes old item.first bytes
+    → Belongs new item
+belongs-taken old new item bytes at len is =
+    let need : ℕ = blocks_for (length bytes) in
+    let P : PoolState → Type 0 = λ p. Belongs p item in
+    subst P (sym is) (ap length (get_or-set_same old.chains item.first (laid_out need bytes) [] at) ∙ length-laid_out need bytes ∙ sym (ap blocks_for len))
+
+pub bytes-taken : (old new : PoolState) (item : Ref) (bytes : List ℕ) → item.first < length old.chains → item.len ≡ length bytes → new ≡ with_bytes old item.first bytes
+    → bytes_of new item ≡ bytes
+bytes-taken old new item bytes at len is =
+    let need : ℕ = blocks_for (length bytes) in
+    let P : PoolState → Type 0 = λ p. bytes_of p item ≡ bytes in
+    subst P (sym is) (ap (λ bs. take item.len (concat bs)) (get_or-set_same old.chains item.first (laid_out need bytes) [] at)
+    ∙ ap (λ n. take n (concat (laid_out need bytes))) len ∙ bytes-laid_out need bytes (blocks-hold (length bytes)))
+
+-- what other references read
+chain-other : (old : PoolState) (first : ℕ) (bytes : List (List ℕ)) (item : Ref) → item.first ≢ first → get_or (set old.chains first bytes) item.first [] ≡ chain_at old item.first
+chain-other old first bytes item other = get_or-set_other old.chains first item.first bytes [] other
+
+apart-fresh : (old : PoolState) (first : ℕ) (item : Ref) → chain_at old first ≡ [] → Belongs old item → item.first ≢ first
+apart-fresh old first item fresh belongs same =
+    let none : length (chain_at old item.first) ≡ 0 = ap (λ n. length (chain_at old n)) same ∙ ap length fresh in
+    let no : ⊥ = omega (arith, none, belongs, some-blocks item.len) in
+    no
+
+pub kept-others : (old new : PoolState) (first free : ℕ) (bytes : List (List ℕ)) → new ≡ record { free = free; chains = set old.chains first bytes } → KeepsOthers first old new
+kept-others old new first free bytes is item other belongs =
+    let P : PoolState → Type 0 = λ p. Belongs p item × (bytes_of p item ≡ bytes_of old item) in
+    let same : get_or (set old.chains first bytes) item.first [] ≡ chain_at old item.first = chain-other old first bytes item other in
+    subst P (sym is) (ap length same ∙ belongs, ap (λ bs. take item.len (concat bs)) same)
+
+pub kept-taken : (old new : PoolState) (first free : ℕ) (bytes : List (List ℕ)) → chain_at old first ≡ [] → new ≡ record { free = free; chains = set old.chains first bytes } → Keeps old new
+kept-taken old new first free bytes fresh is item belongs = kept-others old new first free bytes is item (apart-fresh old first item fresh belongs) belongs
+
+-- how many blocks a reference that belongs to the pool has
+pub count-of : (blocks : List (List ℕ)) (next counts : List ℕ) (free : ℕ) (pool : PoolState) (item : Ref)
+    → record { free = free; chains = chains_from blocks next 0 counts } ≡ pool → Belongs pool item → get_or counts item.first 0 ≡ blocks_for item.len
+count-of blocks next counts free pool item is belongs =
+    let P : PoolState → Type 0 = λ p. Belongs p item in
+    let before : length (get_or (chains_from blocks next 0 counts) item.first []) ≡ blocks_for item.len = subst P (sym is) belongs in
+    sym (ap length (seen_at blocks next counts item.first) ∙ length-contents blocks (chain_from next counts item.first) ∙ length-chain next item.first (get_or counts item.first 0)) ∙ before
+
+pub belongs-by : (blocks : List (List ℕ)) (next counts : List ℕ) (free : ℕ) (pool : PoolState) (item : Ref)
+    → record { free = free; chains = chains_from blocks next 0 counts } ≡ pool → get_or counts item.first 0 ≡ blocks_for item.len → Belongs pool item
+belongs-by blocks next counts free pool item is count =
+    let P : PoolState → Type 0 = λ p. Belongs p item in
+    subst P is (ap length (seen_at blocks next counts item.first) ∙ length-contents blocks (chain_from next counts item.first)
+    ∙ length-chain next item.first (get_or counts item.first 0) ∙ count)
+
+pub not-past : (blocks : List (List ℕ)) (next counts : List ℕ) (free : ℕ) (pool : PoolState) (item : Ref)
+    → record { free = free; chains = chains_from blocks next 0 counts } ≡ pool → length counts ≤ item.first → Belongs pool item → ⊥
+not-past blocks next counts free pool item is past belongs =
+    let none : get_or counts item.first 0 ≡ 0 = get_or_past counts item.first 0 past in
+    omega (arith, none, count-of blocks next counts free pool item is belongs, some-blocks item.len)
+
+pub first-below : (next counts : List ℕ) (head free total first : ℕ) → IsWhole next counts head free total → 1 ≤ get_or counts first 0 → first < total
+first-below next counts head free total first whole some =
+    let e : get_or counts first 0 ≡ suc (get_or counts first 0 - 1) = omega arith in
+    (subst (λ k. Below total (chain next first k)) e (whole.below first)).0
+
+pub count-most : (next counts : List ℕ) (head free total first : ℕ) → IsWhole next counts head free total → first < length counts → free + get_or counts first 0 ≤ total
+count-most next counts head free total first whole at =
+    let changed : sum (set counts first 0) + get_or counts first 0 ≡ sum counts + 0 = sum_by-set (λ x. x) counts first 0 0 at in
+    omega (arith, whole.all)
+
+-- the slice that a `Vec` lends, as it is when it comes back
+pub refill-all : (len : ℕ) (ws items : List (List ℕ)) → len ≡ length items → length ws ≡ length items → take len (ws ++ drop (length ws) items) ≡ ws
+refill-all len ws items long same = take-append-le len ws (drop (length ws) items) (omega arith) ∙ take_all len ws (omega arith)
+
+-- the pool that a take leaves, as callers see it
+pub pool-taken : (blocks blocks' : List (List ℕ)) (next counts : List ℕ) (head free count first : ℕ) (bytes : List ℕ) (pool : PoolState)
+    → IsWhole next counts head free (length blocks) → record { free = free; chains = chains_from blocks next 0 counts } ≡ pool → 1 ≤ count → count ≤ free
+    → first ≡ head → count ≡ blocks_for (length bytes) → blocks' ≡ put_all blocks (chain next head count) (laid_out count bytes)
+    → record { free = free - count; chains = chains_from blocks' next 0 (set counts head count) } ≡ with_bytes pool first bytes
+pool-taken blocks blocks' next counts head free count first bytes pool whole is some room at need written =
+    let P : PoolState → Type 0 = λ p. record { free = free - count; chains = chains_from blocks' next 0 (set counts head count) } ≡ with_bytes p first bytes in
+    let made : ℕ → List (List (List ℕ)) → PoolState = λ n cs. record { free = n; chains = cs } in
+    let old : List (List (List ℕ)) = chains_from blocks next 0 counts in
+    subst P is (ap (made (free - count)) (ap (λ bs. chains_from bs next 0 (set counts head count)) written ∙ seen-taken blocks next counts head free count bytes whole some room)
+    ∙ ap (λ k. made (free - k) (set old head (laid_out k bytes))) need
+    ∙ ap (λ n. made (free - blocks_for (length bytes)) (set old n (laid_out (blocks_for (length bytes)) bytes))) (sym at))
+
+pub fresh-taken : (blocks : List (List ℕ)) (next counts : List ℕ) (head free first : ℕ) (pool : PoolState)
+    → IsWhole next counts head free (length blocks) → record { free = free; chains = chains_from blocks next 0 counts } ≡ pool → 1 ≤ free → first ≡ head
+    → chain_at pool first ≡ []
+fresh-taken blocks next counts head free first pool whole is some at =
+    let P : PoolState → Type 0 = λ p. chain_at p first ≡ [] in
+    let none : get_or counts head 0 ≡ 0 = none-at-head next head (get_or counts head 0) free some (whole.free_apart head) in
+    subst P is (ap (λ n. get_or (chains_from blocks next 0 counts) n []) at ∙ seen_at blocks next counts head ∙ ap (λ k. contents blocks (chain next head k)) none)
+
+pub size-taken : (blocks : List (List ℕ)) (next counts : List ℕ) (head free first : ℕ) (pool : PoolState)
+    → IsWhole next counts head free (length blocks) → record { free = free; chains = chains_from blocks next 0 counts } ≡ pool → 1 ≤ free → first ≡ head
+    → first < length pool.chains
+size-taken blocks next counts head free first pool whole is some at =
+    let P : PoolState → Type 0 = λ p. first < length p.chains in
+    let long : length (chains_from blocks next 0 counts) ≡ length counts = length-chains_from blocks next 0 counts in
+    subst P is (omega (arith, head-below next counts head free (length blocks) whole some, whole.counted, long, at))
+
+-- what is known of a reference that belongs to the pool
+pub record Owned (counts : List ℕ) (total first len : ℕ) : Type 0 where
+  pub count : get_or counts first 0 ≡ blocks_for len
+  pub some : 1 ≤ get_or counts first 0
+  pub at : first < total
+
+pub owned : (blocks : List (List ℕ)) (next counts : List ℕ) (head free first : ℕ) (pool : PoolState) (item : Ref)
+    → IsWhole next counts head free (length blocks) → record { free = free; chains = chains_from blocks next 0 counts } ≡ pool → Belongs pool item → first ≡ item.first
+    → Owned counts (length blocks) first item.len
+owned blocks next counts head free first pool item whole is belongs at =
+    let count : get_or counts first 0 ≡ blocks_for item.len = ap (λ n. get_or counts n 0) at ∙ count-of blocks next counts free pool item is belongs in
+    let some : 1 ≤ get_or counts first 0 = omega (arith, count, some-blocks item.len) in
+    record { count = count; some = some; at = first-below next counts head free (length blocks) first whole some }
+
+-- the pool that a give leaves, as callers see it
+pub pool-given : (blocks : List (List ℕ)) (next counts : List ℕ) (head free first c : ℕ) (pool : PoolState) (item : Ref)
+    → IsWhole next counts head free (length blocks) → record { free = free; chains = chains_from blocks next 0 counts } ≡ pool → first ≡ item.first
+    → get_or counts first 0 ≡ suc c → get_or counts first 0 ≡ blocks_for item.len → first < length counts
+    → record { free = free + suc c; chains = chains_from blocks (set next (walk next first c) head) 0 (set counts first 0) } ≡ without pool item
+pool-given blocks next counts head free first c pool item whole is at has count inside =
+    let made : ℕ → List (List (List ℕ)) → PoolState = λ n cs. record { free = n; chains = cs } in
+    let old : List (List (List ℕ)) = chains_from blocks next 0 counts in
+    let P : PoolState → Type 0 = λ p. record { free = free + suc c; chains = chains_from blocks (set next (walk next first c) head) 0 (set counts first 0) } ≡ without p item in
+    subst P is (ap (made (free + suc c)) (seen-given next counts head free (length blocks) first c whole has blocks inside)
+    ∙ ap (λ k. made (free + k) (set old first [])) (sym has ∙ count)
+    ∙ ap (λ n. made (free + blocks_for item.len) (set old n [])) at)
+
+-- the bytes that are read
+pub bytes-read : (blocks : List (List ℕ)) (next counts : List ℕ) (free first count : ℕ) (pool : PoolState) (item : Ref)
+    → record { free = free; chains = chains_from blocks next 0 counts } ≡ pool → first ≡ item.first → count ≡ get_or counts first 0
+    → take item.len (concat (contents blocks (chain next first count))) ≡ bytes_of pool item
+bytes-read blocks next counts free first count pool item is at counted =
+    let P : PoolState → Type 0 = λ p. take item.len (concat (contents blocks (chain next first count))) ≡ bytes_of p item in
+    subst P is (ap (λ k. take item.len (concat (contents blocks (chain next first k)))) counted
+    ∙ ap (λ n. take item.len (concat (contents blocks (chain_from next counts n)))) at
+    ∙ sym (ap (λ bs. take item.len (concat bs)) (seen_at blocks next counts item.first)))
+
+-- a new pool
+get_or-following : (n count i : ℕ) → i < count → get_or (numbers_from n count) i 0 ≡ n + i
+get_or-following n zero i h = let no : ⊥ = omega (arith, h) in absurd no
+get_or-following n (suc count) zero h = omega arith
+get_or-following n (suc count) (suc i) h =
+    let e : n + 1 + i ≡ n + suc i = omega arith in
+    get_or-following (n + 1) count i (omega (arith, h)) ∙ e
+
+chain-following : (total first count : ℕ) → first + count ≤ total → chain (numbers_from 1 total) first count ≡ numbers_from first count
+chain-following total first zero h = refl
+chain-following total first (suc count) h =
+    let next : List ℕ = numbers_from 1 total in
+    let e : 1 + first ≡ first + 1 = omega arith in
+    let link : get_or next first 0 ≡ first + 1 = get_or-following 1 total first (omega (arith, h)) ∙ e in
+    ap (λ m. first ∷ chain next m count) link ∙ ap (λ ms. first ∷ ms) (chain-following total (first + 1) count (omega (arith, h)))
+
+following-below : (total first count : ℕ) → first + count ≤ total → Below total (numbers_from first count)
+following-below total first zero h = tt
+following-below total first (suc count) h = (omega (arith, h), following-below total (first + 1) count (omega (arith, h)))
+
+following-misses : (n first count : ℕ) → n < first → Misses n (numbers_from first count)
+following-misses n first zero h = tt
+following-misses n first (suc count) h = (omega (arith, h), following-misses n (first + 1) count (omega (arith, h)))
+
+following-differ : (first count : ℕ) → Differ (numbers_from first count)
+following-differ first zero = tt
+following-differ first (suc count) = (following-misses first (first + 1) count (omega arith), following-differ (first + 1) count)
+
+get_or-zeros : (total n : ℕ) → get_or (replicate {A = ℕ} total 0) n 0 ≡ 0
+get_or-zeros zero n = refl
+get_or-zeros (suc total) zero = refl
+get_or-zeros (suc total) (suc n) = get_or-zeros total n
+
+sum-zeros : (total : ℕ) → sum (replicate total 0) ≡ 0
+sum-zeros total = sum_by-replicate (λ x. x) total 0 ∙ mul-zero total
+
+chains-new : (blocks : List (List ℕ)) (next : List ℕ) (n total : ℕ) → chains_from blocks next n (replicate total 0) ≡ replicate total []
+chains-new blocks next n zero = refl
+chains-new blocks next n (suc total) = ap (λ cs. [] ∷ cs) (chains-new blocks next (n + 1) total)
+
+pub whole-new : (total : ℕ) → total < 2 ^ 32 → IsWhole (numbers_from 1 total) (replicate total 0) 0 total total
+whole-new total small =
+    let next : List ℕ = numbers_from 1 total in
+    let counts : List ℕ = replicate total 0 in
+    let frees : chain next 0 total ≡ numbers_from 0 total = chain-following total 0 total (omega arith) in
+    let none : (n : ℕ) → chain_from next counts n ≡ [] = λ n. ap (chain next n) (get_or-zeros total n) in
+    record {
+      small = small;
+      links = length-numbers_from 1 total;
+      counted = length-replicate total 0;
+      free_below = subst (Below total) (sym frees) (following-below total 0 total (omega arith));
+      free_differ = subst Differ (sym frees) (following-differ 0 total);
+      below = λ n. subst (Below total) (sym (none n)) tt;
+      differ = λ n. subst Differ (sym (none n)) tt;
+      apart = λ n m _. subst (λ ms. Apart ms (chain_from next counts m)) (sym (none n)) tt;
+      free_apart = λ n. subst (λ ms. Apart ms (chain next 0 total)) (sym (none n)) tt;
+      all = omega (arith, sum-zeros total);
+    }
+
+pub pool-new : (blocks : List (List ℕ)) (next counts : List ℕ) (total : ℕ) → counts ≡ replicate total 0
+    → record { free = total; chains = chains_from blocks next 0 counts } ≡ fresh_pool total
+pool-new blocks next counts total zeros =
+    let made : List (List (List ℕ)) → PoolState = λ cs. record { free = total; chains = cs } in
+    ap made (ap (chains_from blocks next 0) zeros ∙ chains-new blocks next 0 total)
