@@ -58,6 +58,15 @@ impl Model for Told {
     ghost view = { λ t. record { cell = t.shown.seen.book; newest = t.shown.look; looks = t.shown.seen.log } };
 }
 
+impl Told {
+    /// The look that was published last, or the opening one.
+    pub fn newest(&self) -> &Look
+        ensures { result.now ≡ self.now.newest }
+    {
+        &self.shown.look
+    }
+}
+
 impl<R: Wait + Drop> Publisher<R> {
     /// Publishes a look, whose number is above that of the last one. It waits for the readers that are inside.
     /// Where memory is wanted, readers see what they saw.
