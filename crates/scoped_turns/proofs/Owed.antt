@@ -1,5 +1,5 @@
 -- What a thread owes, once it is kept.
-use Rattle.std.proofs.Common.{◌≡◌, ℕ, List, sym, subst}
+use Rattle.std.proofs.Common.{ℕ, List, sym, subst}
 use Rattle.std.specs.List.{AllZip}
 use Rattle.scoped_turns.specs.declared.started.Turns.{Turns}
 use Rattle.scoped_turns.specs.declared.started.Started.{Started}
@@ -17,4 +17,5 @@ kept Took env turns before (starts.Here actor) after owed same = subst (Took env
 
 pub all_kept : {E A : Type 0} (Took : E → ℕ → A → A → Type 0) (env : E) (turns : ℕ) (before : List A) (all : List (Started A (Turns E A))) (after : List A)
     → AllZip (IsOwed Took env turns) before all → AllZip (Keeps (promised Took)) all after → AllZip (Took env turns) before after
-all_kept Took env turns before all after owed keeps = through (IsOwed Took env turns) (Keeps (promised Took)) (Took env turns) (kept Took env turns) before all after owed keeps
+all_kept Took env turns before all after owed keeps =
+    through (IsOwed Took env turns) (Keeps (promised Took)) (Took env turns) (kept Took env turns) before all after owed keeps

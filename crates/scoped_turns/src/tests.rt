@@ -23,8 +23,10 @@ struct Hall {
     all: u64,
     /// How many of them have come to each turn.
     come: [AtomicU64; 4],
-    /// How many turns were taken.
+    /// How many turns were taken together.
     turns: AtomicU64,
+    /// How many actors waited in vain. From then on nobody waits.
+    alone: AtomicU64,
 }
 
 impl Hall {
@@ -38,6 +40,7 @@ impl Hall {
                 AtomicU64::new(0),
             ],
             turns: AtomicU64::new(0),
+            alone: AtomicU64::new(0),
         }
     }
 
@@ -48,12 +51,16 @@ impl Hall {
         };
         come.fetch_add(1, Ordering::SeqCst);
         for _ in 0..PATIENCE {
+            if self.alone.load(Ordering::SeqCst) > 0 {
+                return false;
+            }
             if come.load(Ordering::SeqCst) == self.all {
                 self.turns.fetch_add(1, Ordering::SeqCst);
                 return true;
             }
             thread::yield_now();
         }
+        self.alone.fetch_add(1, Ordering::SeqCst);
         false
     }
 }
