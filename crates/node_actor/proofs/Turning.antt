@@ -20,7 +20,8 @@ use Rattle.node_actor.specs.declared.node_core.NodeCore.{NodeCore}
 use Rattle.node_actor.specs.declared.stopped.Stopped.{Stopped}
 use Rattle.node_actor.specs.declared.store.Store.{Store}
 use Rattle.node_actor.specs.Chunks.{Chunks, chunk_of, chunk_if, chunks_of, all_items}
-use Rattle.node_actor.specs.Cores.{noted, past_at, stable_of, with_store, IsReady, HasCome, IsInStep, TookOne, Finished, StoresFirst, StepsSafely, Restarted, RestartedBy}
+use Rattle.node_actor.specs.Cores.{noted, past_at, stable_of, IsReady, HasCome, IsInStep, TookOne, StoresFirst, StepsSafely, Restarted}
+use Rattle.node_actor.specs.inside.Finishing.{RestartedBy, Finished, with_store}
 use Rattle.node_actor.specs.Lanes.{lanes, links_of, send_messages}
 use Rattle.node_actor.specs.Steps.{table_at, CanTake, IsOwnStep}
 use Rattle.node_actor.specs.Stores.{disk_in, KeepsChunks}
@@ -41,6 +42,13 @@ entry name event step = record { node = name; event = event; sends = step.sends;
 
 abbrev pub journal_after : {N D : Type 0} → NodeCore N D → Event → ℕ → Step → OwnSteps
 journal_after core event stamp step = record { node = core.journal.node; steps = core.journal.steps ++ noted core.journal.node event stamp step ∷ [] }
+
+-- a disk failed twice since an earlier moment too
+pub failed_since : (a b now row : ℕ) → a ≤ b → FailedTwice b now row → FailedTwice a now row
+failed_since a b now row below twice = record { rose = rose_from twice.rose; in_a_row = twice.in_a_row } where
+  rose_from : (b + 2 ≤ now) ⊎ (2 ^ 64 - 1 ≤ now) → (a + 2 ≤ now) ⊎ (2 ^ 64 - 1 ≤ now)
+  rose_from (inl rose) = inl (omega arith)
+  rose_from (inr end) = inr end
 
 module _ {N D : Type 0} (rules : NodeRules N) (disk : DiskRules D) where
   -- what a node was, and its stored items, at some moment
@@ -160,12 +168,6 @@ module _ {N D : Type 0} (rules : NodeRules N) (disk : DiskRules D) where
   first-on stable core after store outs outs' keeps (inl same) = inl same
   first-on stable core after store outs outs' keeps (inr stores) = inr (λ chunks kept. stores chunks (keeps chunks kept))
 
-  earlier : (a b now row : ℕ) → a ≤ b → FailedTwice b now row → FailedTwice a now row
-  earlier a b now row below twice = record { rose = rose-from twice.rose; in_a_row = twice.in_a_row } where
-    rose-from : (b + 2 ≤ now) ⊎ (2 ^ 64 - 1 ≤ now) → (a + 2 ≤ now) ⊎ (2 ^ 64 - 1 ≤ now)
-    rose-from (inl rose) = inl (omega arith)
-    rose-from (inr end) = inr end
-
   safely-on : {T : Type 0} (result : Result T Stopped) (stable : List Item) (core after : NodeCore N D) (store : Store D) (outs outs' : List Sending)
       → disk.faults (disk_in core.store) ≤ disk.faults (disk_in store) → ((chunks : Chunks) → KeepsChunks disk core.store chunks → KeepsChunks disk store chunks)
       → StepsSafely disk stable result (with_store core store) after outs outs' → StepsSafely disk stable result core after outs outs'
@@ -180,7 +182,9 @@ module _ {N D : Type 0} (rules : NodeRules N) (disk : DiskRules D) where
           tells = λ chunks kept. safely.keeps.tells chunks (keeps chunks kept);
         };
         first = first-on stable core after store outs outs' keeps safely.first;
-        faulty = λ is. earlier (disk.faults (disk_in core.store)) (disk.faults (disk_in store)) (disk.faults (disk_in after.store)) (disk.in_a_row (disk_in after.store)) no_fall (safely.faulty is);
+        faulty = λ is.
+            failed_since (disk.faults (disk_in core.store)) (disk.faults (disk_in store)) (disk.faults (disk_in after.store))
+            (disk.in_a_row (disk_in after.store)) no_fall (safely.faulty is);
         nothing = safely.nothing;
       }
 

@@ -13,14 +13,14 @@ use Rattle.net_model.specs.Merges.{past_in}
 use Rattle.net_model.specs.Names.{NodeId, Message, Item, Event, Step}
 use Rattle.net_model.specs.Names.events
 use Rattle.net_model.specs.Pasts.{Past, Throughout}
-use Rattle.net_model.specs.Tables.{items_of, state_of}
+use Rattle.net_model.specs.Tables.{state_of}
 use Rattle.node_actor.specs.declared.node_core.NodeCore.{NodeCore}
 use Rattle.node_actor.specs.declared.stopped.Stopped.{Stopped}
 use Rattle.node_actor.specs.declared.store.Store.{Store}
 use Rattle.node_actor.specs.declared.stopped.Stopped.TheVariants as stops
 use Rattle.node_order.specs.Places.{rank_of}
 use Rattle.node_actor.specs.Chunks.{Chunks, chunk_of, chunks_of}
-use Rattle.node_actor.specs.Lanes.{links_of, lanes, released, send_messages, send_steps}
+use Rattle.node_actor.specs.Lanes.{links_of, lanes, released, send_steps}
 use Rattle.node_actor.specs.Steps.{table_at, IsOwnStep}
 use Rattle.node_actor.specs.Stores.{disk_in, KeepsChunks, TellsItems}
 
@@ -89,31 +89,6 @@ module _ {N D : Type 0} where
   -- it took the step of a restart, after which it is what its vault kept
   abbrev pub Restarted : NodeRules N → DiskRules D → NodeCore N D → NodeCore N D → List Sending → List Sending → Type 0
   Restarted rules disk before after outs outs' = TookOne rules disk events.Restart 0 before after outs outs'
-
-  abbrev pub with_store : NodeCore N D → Store D → NodeCore N D
-  with_store core store = record core { store = store }
-
-  -- that step, where these items were read; whatever the store was before, if it kept them and the one that is there now does
-  abbrev pub RestartedBy : NodeRules N → DiskRules D → List Item → NodeCore N D → NodeCore N D → List Sending → List Sending → Type 0
-  RestartedBy rules disk stored before after outs outs' =
-      (store : Store D)
-      → (IsInStep rules disk (with_store before store)
-      → (stored ≡ items_of (table_at rules before.cfg before.name) before.name (past_at before))
-      × KeepsChunks disk before.store (chunks_of (table_at rules before.cfg before.name) before.name (past_at before)))
-      → Restarted rules disk (with_store before store) after outs outs'
-
-  -- what the end of a step does, once its node gave it: it is stored, sent and noted
-  pub record Finished (disk : DiskRules D) (event : Event) (stamp : ℕ) (before after : NodeCore N D) (outs outs' : List Sending) : Type 0 where
-    pub cfg : after.cfg ≡ before.cfg
-    pub name : after.name ≡ before.name
-    pub node : after.node ≡ before.node
-    pub plan : after.plan ≡ before.plan
-    pub journal : after.journal ≡ record {
-      node = before.journal.node;
-      steps = before.journal.steps ++ noted before.journal.node event stamp before.step ∷ [];
-    }
-    pub sends : lanes outs' after.faults.items ≡ send_messages before.cfg before.plan stamp before.step.sends (lanes outs before.faults.items)
-    pub stored : (chunks : Chunks) → KeepsChunks disk before.store chunks → KeepsChunks disk after.store (chunks ++ chunk_of before.step.stable)
 
   -- the faults of the links have ended: what was held is queued, and no message is lost any more
   pub record FaultsEnded (rules : NodeRules N) (disk : DiskRules D) (before after : NodeCore N D) (outs outs' : List Sending) : Type 0 where

@@ -1,5 +1,5 @@
 -- The links to a node: what was pulled of them, and where the messages that a node took came from.
-use Rattle.std.specs.Prelude.{◌≡◌, ℕ, ◌<◌, List, [], ◌∷◌, ◌++◌, map, length, get_or, slice_set, Contains}
+use Rattle.std.specs.Prelude.{◌≡◌, ℕ, ◌<◌, List, map, length, get_or, Contains}
 use Rattle.std.specs.List.{AllByRecursion}
 use Rattle.node_links.specs.declared.frame.Frame.{Frame}
 use Rattle.node_links.specs.Links.{LinkName, Receiving}
@@ -12,16 +12,6 @@ use Rattle.node_order.specs.Places.{rank_of}
 
 abbrev pub links_to : List Receiving → List LinkName
 links_to ins = map (λ (i : Receiving). i.link) ins
-
--- one frame more was pulled of the link from the node at a place
-pub record IsPulled (before after : List Receiving) (place : ℕ) (frame : Frame) : Type 0 where
-  pub old : Receiving
-  pub new : Receiving
-  pub within : place < length before
-  pub there : get_or before place old ≡ old
-  pub link : new.link ≡ old.link
-  pub received : new.received ≡ old.received ++ frame ∷ []
-  pub set : after ≡ slice_set before place new
 
 -- a message came in a frame that was pulled of the link from its sender, with a stamp below this one
 pub record CameBy (cfg : Config) (ins : List Receiving) (message : Message) (stamp : ℕ) : Type 0 where

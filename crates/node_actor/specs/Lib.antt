@@ -6,3 +6,5 @@ pub mod Lanes
 pub mod Steps
 pub mod Stops
 pub mod Stores
+pub mod Turns
+pub mod inside

@@ -3,7 +3,7 @@
 ghost use Rattle.std.specs.Prelude.{◌≡◌, ◌≤◌, List, length, IfSome, IfNone};
 ghost use Rattle.link_faults.specs.Faults.{Holding};
 ghost use Rattle.node_actor.specs.Lanes.{links_of, lanes};
-ghost use Rattle.node_actor.specs.Ins.{IsPulled};
+ghost use Rattle.node_actor.specs.inside.Reacting.{IsPulled};
 
 use node_links::{Frame, LinkIn, LinkOut};
 

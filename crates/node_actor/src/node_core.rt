@@ -11,7 +11,8 @@ ghost use Rattle.node_actor.specs.declared.stopped.Stopped.TheVariants.{Memory a
 ghost use Rattle.node_actor.specs.declared.store.Store.TheVariants.{Open};
 ghost use Rattle.gate_vault.specs.Vault.{KeepsWithGate};
 ghost use Rattle.node_actor.specs.Chunks.{Chunks, all_items};
-ghost use Rattle.node_actor.specs.Cores.{IsReady, IsInStep, TookOne, Received, RestartedBy, Restarted, FaultsEnded, Finished, StepsSafely, IsFaulty, stable_of, steps_of, with_store};
+ghost use Rattle.node_actor.specs.Cores.{IsReady, IsInStep, TookOne, Received, Restarted, FaultsEnded, StepsSafely, IsFaulty, stable_of, steps_of};
+ghost use Rattle.node_actor.specs.inside.Finishing.{RestartedBy, Finished, with_store};
 ghost use Rattle.node_actor.specs.Lanes.{links_of};
 ghost use Rattle.node_actor.specs.Stores.{disk_in, KeepsChunks, TellsItems};
 ghost use Rattle.node_actor.specs.Steps.{CanTake};
@@ -209,31 +210,9 @@ impl<N: NodeModel + Drop, D: Disk + Drop> NodeCore<N, D> {
         ensures fault { IsErrOf result.1 DiskStopped → IsFaulty ⟦<D as Disk>⟧ self result.0 }
         ensures no_fall { D.faults (disk_in self.store) ≤ D.faults (disk_in result.0.store) }
     {
-        let NodeCore {
-            alloc,
-            cfg,
-            name,
-            node,
-            store,
-            journal,
-            faults,
-            plan,
-            step,
-            room,
-        } = self;
-        let (store, items) = reload(alloc, store);
-        let core = NodeCore {
-            alloc,
-            cfg,
-            name,
-            node,
-            store,
-            journal,
-            faults,
-            plan,
-            step,
-            room,
-        };
+        let mut core = self;
+        let (store, items) = reload(core.alloc, core.store);
+        core.store = store;
         (core, items)
     }
 

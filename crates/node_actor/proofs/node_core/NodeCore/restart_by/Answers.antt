@@ -1,7 +1,8 @@
 use Rattle.std.proofs.Common.{◌≡◌, ap, ◌∙◌}
 use Rattle.net_model.specs.Names.events
 use Rattle.node_actor.specs.Chunks.{chunks_of}
-use Rattle.node_actor.specs.Cores.{past_at, with_store}
+use Rattle.node_actor.specs.Cores.{past_at}
+use Rattle.node_actor.specs.inside.Finishing.{with_store}
 use Rattle.node_actor.specs.Steps.{table_at}
 use Rattle.node_actor.proofs.Results.{map_ok}
 use Rattle.node_actor.proofs.Turning.{took_one, safe_step}
