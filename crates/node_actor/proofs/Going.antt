@@ -1,6 +1,6 @@
 -- An actor that takes a frame: where its messages came from stays true, and the new one came so too.
 use Rattle.std.proofs.Common.{◌≡◌, ◌≢◌, ◌⊎◌, inl, inr, ℕ, zero, suc, ◌<◌, List, [], ◌∷◌, ◌++◌, length, get_or, set, Bool, true, false, Option, None, Some, refl, sym, ap, ◌∙◌, subst, arith, append-nil}
-use Rattle.std.specs.List.{AllByRecursion, Contains}
+use Rattle.std.specs.List.{Contains}
 use Rattle.std.proofs.lemmas.List.{get_or-set_same, get_or-set_other, length-set, get_or_default}
 use Rattle.std.proofs.lemmas.List.Elements.{Contains-append_left, Contains-append_right}
 use Rattle.node_links.specs.declared.frame.Frame.{Frame}
@@ -15,14 +15,16 @@ use Rattle.node_order.specs.Places.{rank_of}
 use Rattle.node_actor.specs.declared.node_core.NodeCore.{NodeCore}
 use Rattle.node_actor.specs.declared.actor.NodeActor.{NodeActor}
 use Rattle.node_actor.specs.Actors.{KeepsItems, WentOn, Moved}
-use Rattle.node_actor.specs.inside.Reacting.{IsPulled, Reacted}
+use Rattle.node_actor.specs.inside.Reacting.{IsPulled, Reacted, is_input}
 use Rattle.node_actor.specs.Cores.{steps_of, past_at, IsReady, IsReadFrom, Turned, Received, KeepsDisk, IsFaulty}
 use Rattle.node_actor.specs.Chunks.{chunks_of}
 use Rattle.node_actor.specs.Steps.{table_at}
 use Rattle.node_actor.proofs.Keeping.{keeps_tells}
 use Rattle.node_actor.specs.declared.stopped.Stopped.{Stopped}
 use Rattle.node_actor.specs.declared.stopped.Stopped.TheVariants as stops
-use Rattle.node_actor.specs.Turns.{IsTurn, TookSteps}
+use Rattle.node_actor.specs.declared.taken.Taken.{Taken}
+use Rattle.node_actor.specs.declared.taken.Taken.TheVariants as takes
+use Rattle.node_actor.specs.Turns.{AreStepsOf, IsTurn, TookSteps}
 use Rattle.link_faults.specs.Faults.{Holding}
 use Rattle.node_actor.specs.Lanes.{links_of, lanes}
 use Rattle.node_actor.specs.Ins.{links_to, CameBy, AreTaken}
@@ -117,6 +119,7 @@ none_turned rules disk core outs ready = record {
   steps = sym (append-nil core.journal.steps);
   links = refl;
   sends = refl;
+  valid = tt;
   in_step = λ at. at;
 }
 
@@ -135,6 +138,7 @@ push_turned rules disk more before after outs outs' pushed links queued turned =
   steps = turned.steps;
   links = links ∙ turned.links;
   sends = queued after.faults.items ∙ turned.sends;
+  valid = turned.valid;
   in_step = turned.in_step;
 }
 
@@ -169,7 +173,6 @@ module _ {N D : Type 0} (rules : NodeRules N) (disk : DiskRules D) where
     more = [];
     turned = subst (λ (c : NodeCore N D). Turned rules disk [] actor.core c actor.outs.items moved.outs.items) (sym core)
         (subst (Turned rules disk [] actor.core actor.core actor.outs.items) (sym outs) (none_turned rules disk actor.core actor.outs.items ready));
-    links = ap links_to ins;
     taken = λ all.
         subst (λ (c : NodeCore N D). AreTaken c.cfg moved.ins.items (steps_of c)) (sym core)
         (subst (λ l. AreTaken actor.core.cfg l (steps_of actor.core)) (sym ins) all);
@@ -181,6 +184,8 @@ module _ {N D : Type 0} (rules : NodeRules N) (disk : DiskRules D) where
     goes = λ is. none_went actor moved core outs ins ready;
     was = λ is. calm;
     rests = λ why is. absurd (some_none why (sym is ∙ calm));
+    outs = ap links_of outs;
+    ins = ap links_to ins;
     keeps = items_kept rules disk actor.core moved.core (subst (λ (c : NodeCore N D). KeepsDisk disk actor.core c) (sym core) (none_kept disk actor.core));
     faulty = λ was fails. absurd (some_none stops.Disk (sym fails ∙ calm'));
   }
@@ -195,7 +200,6 @@ module _ {N D : Type 0} (rules : NodeRules N) (disk : DiskRules D) where
       record {
         more = x ∷ [];
         turned = took.turned;
-        links = ap links_to (sym ins) ∙ pulled_links actor.ins.items mid.ins.items from frame pulled;
         taken = λ all.
             subst (λ c. AreTaken c after.ins.items (steps_of after.core)) (sym took.turned.cfg)
             (subst (AreTaken cfg after.ins.items) (sym took.turned.steps)
@@ -208,43 +212,53 @@ module _ {N D : Type 0} (rules : NodeRules N) (disk : DiskRules D) where
     more = [];
     turned = subst (λ (c : NodeCore N D). Turned rules disk [] actor.core c actor.outs.items after.outs.items) (sym received.0)
         (subst (Turned rules disk [] actor.core actor.core actor.outs.items) (sym received.1) (none_turned rules disk actor.core actor.outs.items ready));
-    links = ap links_to (sym ins) ∙ pulled_links actor.ins.items mid.ins.items from frame pulled;
     taken = λ all.
         subst (λ (c : NodeCore N D). AreTaken c.cfg after.ins.items (steps_of c)) (sym received.0)
         (subst (λ l. AreTaken actor.core.cfg l (steps_of actor.core)) ins
         (still_taken actor.core.cfg actor.ins.items mid.ins.items from frame (steps_of actor.core) pulled all));
   }
 
-  pub frame_moved : (actor mid after : NodeActor N D) (from : ℕ) (frame : Frame) → actor.stopped ≡ None → IsReady rules actor.core → mid.core ≡ actor.core
-      → mid.outs.items ≡ actor.outs.items → IsPulled actor.ins.items mid.ins.items from frame → Reacted rules disk from frame mid after → Moved rules disk actor after
-  frame_moved actor mid after from frame calm ready core outs pulled reacted = record {
+  pub frame_moved : (taken : Taken) (actor mid after : NodeActor N D) (from : ℕ) (frame : Frame) → actor.stopped ≡ None → IsReady rules actor.core
+      → mid.core ≡ actor.core → mid.outs.items ≡ actor.outs.items → IsPulled actor.ins.items mid.ins.items from frame
+      → Reacted rules disk from frame taken mid after → Moved rules disk actor after
+  frame_moved taken actor mid after from frame calm ready core outs pulled reacted = record {
     goes = λ is.
-        let goes = reacted.goes is in
-        let received = subst (λ (c : NodeCore N D). Received goes.0 rules disk from frame c after.core mid.outs.items after.outs.items) core goes.1 in
-        took_on actor mid after from frame ready pulled (sym reacted.ins) goes.0
-        (subst (λ o. Received goes.0 rules disk from frame actor.core after.core o after.outs.items) outs received);
+        let stepped = is_input taken in
+        let received = subst (λ (c : NodeCore N D). Received stepped rules disk from frame c after.core mid.outs.items after.outs.items) core (reacted.goes is) in
+        took_on actor mid after from frame ready pulled (sym reacted.ins) stepped
+        (subst (λ o. Received stepped rules disk from frame actor.core after.core o after.outs.items) outs received);
     was = λ is. calm;
     rests = λ why is. absurd (some_none why (sym is ∙ calm));
+    outs = reacted.outs ∙ ap links_of outs;
+    ins = ap links_to reacted.ins ∙ pulled_links actor.ins.items mid.ins.items from frame pulled;
     keeps = items_kept rules disk actor.core after.core (subst (λ (c : NodeCore N D). KeepsDisk disk c after.core) core reacted.keeps);
     faulty = λ was fails. subst (λ (c : NodeCore N D). IsFaulty disk c after.core) core (reacted.faulty fails);
   }
 
   -- ---- the steps of a turn
 
-  received_steps : (taken : Bool) (from : ℕ) (frame : Frame) (before after : NodeCore N D) (outs outs' : List Sending)
-      → Received taken rules disk from frame before after outs outs'
-      → (more : List Stamped) × (steps_of after ≡ steps_of before ++ more) × IsTurn false more
-  received_steps true from frame before after outs outs' received =
-      let took = received.2 in (took.step ∷ [], took.turned.steps, inr (received.0, (took.step, refl, took.event_is)))
-  received_steps false from frame before after outs outs' received =
-      ([], ap (λ (c : NodeCore N D). steps_of c) received.0 ∙ sym (append-nil (steps_of before)), inl refl)
+  no_more : (before after : NodeCore N D) → after ≡ before → (more : List Stamped) × (steps_of after ≡ steps_of before ++ more) × (more ≡ [])
+  no_more before after same = ([], ap (λ (c : NodeCore N D). steps_of c) same ∙ sym (append-nil (steps_of before)), refl)
 
-  pub frame_steps : (from : ℕ) (frame : Frame) (actor mid after : NodeActor N D) → mid.core ≡ actor.core → Reacted rules disk from frame mid after
-      → TookSteps (IsTurn false) actor after
-  frame_steps from frame actor mid after core reacted = λ calm.
-      let goes = reacted.goes calm in
-      let steps = received_steps goes.0 from frame mid.core after.core mid.outs.items after.outs.items goes.1 in
+  received_steps : (taken : Taken) (from : ℕ) (frame : Frame) (before after : NodeCore N D) (outs outs' : List Sending)
+      → Received (is_input taken) rules disk from frame before after outs outs'
+      → (more : List Stamped) × (steps_of after ≡ steps_of before ++ more) × AreStepsOf taken more
+  received_steps takes.Input from frame before after outs outs' received =
+      let took = received.2 in (took.step ∷ [], took.turned.steps, (received.0, (took.step, refl, took.event_is)))
+  received_steps takes.NoInput from frame before after outs outs' received = no_more before after received.0
+  received_steps takes.Nothing from frame before after outs outs' received = no_more before after received.0
+
+  pub frame_steps : (taken : Taken) (from : ℕ) (frame : Frame) (actor mid after : NodeActor N D) → mid.core ≡ actor.core
+      → Reacted rules disk from frame taken mid after → TookSteps (AreStepsOf taken) actor after
+  frame_steps taken from frame actor mid after core reacted = λ calm.
+      let steps = received_steps taken from frame mid.core after.core mid.outs.items after.outs.items (reacted.goes calm) in
       (steps.0, steps.1 ∙ ap (λ (c : NodeCore N D). steps_of c ++ steps.0) core, steps.2)
+
+-- the steps that come of a frame are those of a turn that is no tick
+pub turn_of_frame : (taken : Taken) (steps : List Stamped) → AreStepsOf taken steps → IsTurn false steps
+turn_of_frame takes.Input steps are = inr (are.0, are.1)
+turn_of_frame takes.NoInput steps are = inl are
+turn_of_frame takes.Nothing steps are = inl are
 
 pub is_none_some : (stopped : Option Stopped) (why : Stopped) → stopped ≡ None → stopped ≡ Some why → ⊥
 is_none_some stopped why none some = some_none why (sym some ∙ none)

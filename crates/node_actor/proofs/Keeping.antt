@@ -1,7 +1,6 @@
 -- What a store keeps, and what its disk tells after an append that failed.
-use Rattle.std.proofs.Common.{◌≡◌, ◌⊎◌, inl, inr, ℕ, List, [], ◌∷◌, ◌++◌, Option, Some, map, refl, sym, ap, ◌∙◌, subst}
-use Rattle.std.specs.List.{AllByRecursion}
-use Rattle.gate_vault.specs.File.{StandsFor, StandsWithGate}
+use Rattle.std.proofs.Common.{◌≡◌, inl, inr, ℕ, List, [], ◌∷◌, ◌++◌, Option, Some, map, refl, sym, ap, ◌∙◌, subst}
+use Rattle.gate_vault.specs.File.{StandsWithGate}
 use Rattle.gate_vault.specs.Put.{TellsBeforeOrAfter}
 use Rattle.gate_vault.specs.Vault.{Keeps, KeepsWithGate, disk_of}
 use Rattle.gate_vault.specs.declared.vault.Vault.{Vault}

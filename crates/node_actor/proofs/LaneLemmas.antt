@@ -1,5 +1,5 @@
 -- The links from a node, one of which is written.
-use Rattle.std.proofs.Common.{◌≡◌, ◌⊎◌, inl, inr, ℕ, zero, suc, ◌+◌, min, ◌<◌, ◌≤◌, List, [], ◌∷◌, ◌++◌, length, map, get_or, set, Option, Some, None, refl, sym, ap, ◌∙◌, subst, append_assoc, arith}
+use Rattle.std.proofs.Common.{◌≡◌, ◌⊎◌, inl, inr, ℕ, zero, suc, ◌+◌, min, ◌<◌, ◌≤◌, List, [], ◌∷◌, ◌++◌, length, map, get_or, set, Some, None, refl, sym, ap, ◌∙◌, append_assoc, arith}
 use Rattle.link_faults.specs.declared.plan.FaultPlan.{FaultPlan}
 use Rattle.link_faults.specs.Faults.{Holding, held_frames, held_by, after_word, next_fate, what_is_queued}
 use Rattle.node_links.specs.declared.frame.Frame.{Frame}

@@ -3,11 +3,10 @@ use Rattle.std.proofs.Common.{◌≡◌, ℕ, zero, suc, ◌+◌, ◌<◌, List,
 use Rattle.msg_wire.specs.Items.{items_spelling}
 use Rattle.msg_wire.specs.Nodes.{same_node}
 use Rattle.msg_wire.specs.Steps.{IsVaultEntry}
-use Rattle.msg_wire.specs.Valid.{AreValidItems, IsValidItem}
+use Rattle.msg_wire.specs.Valid.{AreValidItems}
 use Rattle.net_model.specs.Names.{NodeId, Item, Event}
 use Rattle.net_model.specs.Pasts.{Past}
-use Rattle.net_model.specs.Tables.{StepTable, Progress, step_if, progress_of, items_of, state_of}
-use Rattle.std.specs.List.{AllByRecursion}
+use Rattle.net_model.specs.Tables.{StepTable, Progress, step_if, progress_of, items_of}
 use Rattle.node_actor.specs.Chunks.{Chunks, chunk_of, chunk_if, chunks_of, all_items}
 use Rattle.node_actor.specs.Stores.{AreEntries}
 

@@ -4,8 +4,10 @@ use Rattle.link_faults.specs.declared.plan.FaultPlan.{FaultPlan}
 use Rattle.node_links.specs.Links.{Sending}
 use Rattle.spec_base.specs.declared.disk.Disk.{Ghosts as DiskRules}
 use Rattle.msg_wire.specs.declared.config.Config.{Config}
+use Rattle.msg_wire.specs.Steps.{AreValidMessages}
 use Rattle.net_model.specs.declared.journal.Stamped.{Stamped}
 use Rattle.net_model.specs.declared.model.NodeModel.{Ghosts as NodeRules}
+use Rattle.net_model.proofs.Merging.{all_append}
 use Rattle.node_actor.specs.declared.actor.NodeActor.{NodeActor}
 use Rattle.node_actor.specs.declared.node_core.NodeCore.{NodeCore}
 use Rattle.node_actor.specs.declared.stopped.Stopped.{Stopped}
@@ -36,6 +38,7 @@ module _ {N D : Type 0} (rules : NodeRules N) (disk : DiskRules D) where
         steps = second.steps ∙ ap (λ l. l ++ two) first.steps ∙ append_assoc a.journal.steps one two;
         links = second.links ∙ first.links;
         sends = lanes_are ∙ ap (send_steps a.cfg a.plan two) first.sends ∙ sym (steps_append a.cfg a.plan one two (lanes x a.faults.items));
+        valid = all_append (λ (x : Stamped). AreValidMessages x.entry.sends) one two first.valid second.valid;
         in_step = λ at. second.in_step (first.in_step at);
       }
 
@@ -43,7 +46,6 @@ module _ {N D : Type 0} (rules : NodeRules N) (disk : DiskRules D) where
   went_then a b c first second = record {
     more = first.more ++ second.more;
     turned = turned_then first.more second.more a.core b.core c.core a.outs.items b.outs.items c.outs.items first.turned second.turned;
-    links = second.links ∙ first.links;
     taken = λ all. second.taken (first.taken all);
   }
 
@@ -76,6 +78,8 @@ module _ {N D : Type 0} (rules : NodeRules N) (disk : DiskRules D) where
     rests = λ why is.
         let same = first.rests why is in
         second.rests why (ap (λ (d : NodeActor N D). d.stopped) same ∙ is) ∙ same;
+    outs = second.outs ∙ first.outs;
+    ins = second.ins ∙ first.ins;
     keeps = keeps_by a b c b.stopped refl first second;
     faulty = λ was fails. faulty_by a b c b.stopped refl first second was fails;
   }
@@ -86,6 +90,8 @@ module _ {N D : Type 0} (rules : NodeRules N) (disk : DiskRules D) where
     goes = λ is. absurd (is_none_some a.stopped why is stopped);
     was = λ is. is;
     rests = λ other is. refl;
+    outs = refl;
+    ins = refl;
     keeps = items_kept rules disk a.core a.core (none_kept disk a.core);
     faulty = λ was fails. absurd (is_none_some a.stopped stops.Disk was fails);
   }

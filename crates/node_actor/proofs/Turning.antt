@@ -1,16 +1,16 @@
 -- A step of a node's table leaves a node that has come one step further.
-use Rattle.std.proofs.Common.{◌≡◌, ◌⊎◌, inl, inr, ℕ, ◌+◌, ◌-◌, ◌^◌, ◌<◌, ◌≤◌, Bool, true, false, List, [], ◌∷◌, ◌++◌, Result, refl, sym, ap, ◌∙◌, subst, arith}
+use Rattle.std.proofs.Common.{◌≡◌, ◌⊎◌, inl, inr, ℕ, ◌+◌, ◌-◌, ◌^◌, ◌<◌, ◌≤◌, true, false, List, [], ◌∷◌, ◌++◌, Result, refl, sym, ap, ◌∙◌, subst, arith}
 use Rattle.node_links.specs.Links.{Sending}
 use Rattle.spec_base.specs.declared.disk.Disk.{Ghosts as DiskRules}
 use Rattle.msg_wire.specs.declared.config.Config.{Config}
 use Rattle.msg_wire.specs.Nodes.{same_node}
+use Rattle.msg_wire.specs.Steps.{AreValidMessages}
 use Rattle.msg_wire.specs.Valid.{IsValidConfig, IsNodeOf}
 use Rattle.net_model.specs.declared.history.HistoryEntry.{HistoryEntry}
-use Rattle.net_model.specs.declared.journal.Stamped.{Stamped}
 use Rattle.net_model.specs.declared.model.NodeModel.{Ghosts as NodeRules}
 use Rattle.net_model.specs.Journals.{OwnSteps}
 use Rattle.net_model.specs.Merges.{past_in}
-use Rattle.net_model.specs.Names.{NodeId, Message, Mark, Item, Event, Step}
+use Rattle.net_model.specs.Names.{NodeId, Item, Event, Step}
 use Rattle.net_model.specs.Names.events
 use Rattle.net_model.specs.Pasts.{Past, is_restart}
 use Rattle.net_model.specs.Tables.{StepTable, Progress, state_after, step_if, progress_of, items_of, state_of}
@@ -21,10 +21,10 @@ use Rattle.node_actor.specs.declared.stopped.Stopped.{Stopped}
 use Rattle.node_actor.specs.declared.store.Store.{Store}
 use Rattle.node_actor.specs.Chunks.{Chunks, chunk_of, chunk_if, chunks_of, all_items}
 use Rattle.node_actor.specs.Cores.{noted, past_at, stable_of, IsReady, HasCome, IsInStep, TookOne, StoresFirst, StepsSafely, Restarted}
-use Rattle.node_actor.specs.inside.Finishing.{RestartedBy, Finished, with_store}
+use Rattle.node_actor.specs.inside.Finishing.{RestartedBy, with_store}
 use Rattle.node_actor.specs.Lanes.{lanes, links_of, send_messages}
-use Rattle.node_actor.specs.Steps.{table_at, CanTake, IsOwnStep}
-use Rattle.node_actor.specs.Stores.{disk_in, KeepsChunks}
+use Rattle.node_actor.specs.Steps.{table_at, CanTake}
+use Rattle.node_actor.specs.Stores.{KeepsChunks}
 use Rattle.gate_vault.specs.Put.{FailedTwice}
 use Rattle.node_actor.proofs.Loading.{stored_is}
 
@@ -87,15 +87,15 @@ module _ {N D : Type 0} (rules : NodeRules N) (disk : DiskRules D) where
 
   -- the parts of what the end of a step does, and what it means for the node
   pub took_one : (event : Event) (above stamp : ℕ) (before after : NodeCore N D) (node : N) (step : Step) (outs outs' : List Sending)
-      → IsReady rules before → CanTake before.name event → above < stamp → step ≡ rules.gives before.node event → rules.is_spent node ≡ false
-      → links_of outs' ≡ links_of outs → after.cfg ≡ before.cfg → after.name ≡ before.name → after.node ≡ node → after.plan ≡ before.plan
+      → IsReady rules before → CanTake before.name event → above < stamp → step ≡ rules.gives before.node event → AreValidMessages step.sends
+      → rules.is_spent node ≡ false → links_of outs' ≡ links_of outs → after.cfg ≡ before.cfg → after.name ≡ before.name → after.node ≡ node → after.plan ≡ before.plan
       → after.journal ≡ journal_after before event stamp step
       → lanes outs' after.faults.items ≡ send_messages before.cfg before.plan stamp step.sends (lanes outs before.faults.items)
       → (IsInStep rules disk before → node ≡ state_after (table_at rules before.cfg before.name) event (progress before.cfg before.name (past_at before) before.node))
       → (IsInStep rules disk before
       → KeepsChunks disk after.store (chunks_of (table_at rules before.cfg before.name) before.name (past_at before) ++ chunk_of step.stable))
       → TookOne rules disk event above before after outs outs'
-  took_one event above stamp before after node step outs outs' ready takes over gives unspent links cfg_is name_is is_node plan_is journal sends leaves keeps =
+  took_one event above stamp before after node step outs outs' ready takes over gives valid unspent links cfg_is name_is is_node plan_is journal sends leaves keeps =
       let x = noted before.journal.node event stamp step in
       let node_is : after.journal.node ≡ before.journal.node = ap (λ (j : OwnSteps). j.node) journal in
       let steps_are : after.journal.steps ≡ before.journal.steps ++ x ∷ [] = ap (λ (j : OwnSteps). j.steps) journal in
@@ -122,6 +122,7 @@ module _ {N D : Type 0} (rules : NodeRules N) (disk : DiskRules D) where
           steps = steps_are;
           links = links;
           sends = sends;
+          valid = (valid, tt);
           in_step = λ at.
               subst (λ c. HasCome rules disk c after.name (past_at after) after.node after.store) (sym cfg_is)
               (subst (λ n. HasCome rules disk before.cfg n (past_at after) after.node after.store) (sym name_is)
@@ -161,37 +162,3 @@ module _ {N D : Type 0} (rules : NodeRules N) (disk : DiskRules D) where
       → AreRead items core.store loaded.store → RestartedBy rules disk items loaded after outs outs' → Restarted rules disk core after outs outs'
   restarted core loaded after items outs outs' same reads by =
       restarted-on core loaded.store after items outs outs' reads (subst (λ c. RestartedBy rules disk items c after outs outs') same by)
-
-  first-on : (stable : List Item) (core after : NodeCore N D) (store : Store D) (outs outs' : List Sending)
-      → ((chunks : Chunks) → KeepsChunks disk core.store chunks → KeepsChunks disk store chunks)
-      → StoresFirst disk stable (with_store core store) after outs outs' → StoresFirst disk stable core after outs outs'
-  first-on stable core after store outs outs' keeps (inl same) = inl same
-  first-on stable core after store outs outs' keeps (inr stores) = inr (λ chunks kept. stores chunks (keeps chunks kept))
-
-  safely-on : {T : Type 0} (result : Result T Stopped) (stable : List Item) (core after : NodeCore N D) (store : Store D) (outs outs' : List Sending)
-      → disk.faults (disk_in core.store) ≤ disk.faults (disk_in store) → ((chunks : Chunks) → KeepsChunks disk core.store chunks → KeepsChunks disk store chunks)
-      → StepsSafely disk stable result (with_store core store) after outs outs' → StepsSafely disk stable result core after outs outs'
-  safely-on result stable core after store outs outs' no_fall keeps safely =
-      let falls = safely.keeps.no_fall in
-      record {
-        links = safely.links;
-        keeps = record {
-          cfg = safely.keeps.cfg;
-          name = safely.keeps.name;
-          no_fall = omega (arith, no_fall, falls);
-          tells = λ chunks kept. safely.keeps.tells chunks (keeps chunks kept);
-        };
-        first = first-on stable core after store outs outs' keeps safely.first;
-        faulty = λ is.
-            failed_since (disk.faults (disk_in core.store)) (disk.faults (disk_in store)) (disk.faults (disk_in after.store))
-            (disk.in_a_row (disk_in after.store)) no_fall (safely.faulty is);
-        nothing = safely.nothing;
-      }
-
-  pub restarted_safely : {T : Type 0} (result : Result T Stopped) (core loaded after : NodeCore N D) (items : List Item) (outs outs' : List Sending)
-      → loaded ≡ with_store core loaded.store → disk.faults (disk_in core.store) ≤ disk.faults (disk_in loaded.store) → AreRead items core.store loaded.store
-      → StepsSafely disk (stable_of rules loaded events.Restart) result loaded after outs outs'
-      → StepsSafely disk (stable_of rules core events.Restart) result core after outs outs'
-  restarted_safely result core loaded after items outs outs' same no_fall reads safely =
-      safely-on result (stable_of rules core events.Restart) core after loaded.store outs outs' no_fall (λ chunks kept. (reads chunks kept).1)
-      (subst (λ c. StepsSafely disk (stable_of rules c events.Restart) result c after outs outs') same safely)

@@ -1,11 +1,13 @@
 -- A node's core, and what a step makes of it.
-use Rattle.std.specs.Prelude.{◌≡◌, ◌⊎◌, ℕ, ◌≤◌, ◌<◌, Bool, true, false, List, [], ◌∷◌, ◌++◌, map, Option, None, Result, IsErrOf}
+use Rattle.std.specs.Prelude.{◌≡◌, ◌⊎◌, ℕ, ◌≤◌, ◌<◌, Bool, true, false, List, [], ◌∷◌, ◌++◌, map, None, Result, IsErrOf}
+use Rattle.std.specs.List.{AllByRecursion}
 use Rattle.gate_vault.specs.Put.{FailedTwice}
 use Rattle.node_links.specs.declared.frame.Frame.{Frame}
 use Rattle.node_links.specs.Links.{Sending}
 use Rattle.spec_base.specs.declared.disk.Disk.{Ghosts as DiskRules}
 use Rattle.msg_wire.specs.declared.config.Config.{Config}
 use Rattle.msg_wire.specs.Messages.{message_spelling}
+use Rattle.msg_wire.specs.Steps.{AreValidMessages}
 use Rattle.msg_wire.specs.Valid.{IsValidConfig, IsNodeOf, IsValidMessage}
 use Rattle.net_model.specs.declared.journal.Stamped.{Stamped}
 use Rattle.net_model.specs.declared.model.NodeModel.{Ghosts as NodeRules}
@@ -77,6 +79,7 @@ module _ {N D : Type 0} where
     pub steps : after.journal.steps ≡ before.journal.steps ++ more
     pub links : links_of outs' ≡ links_of outs
     pub sends : lanes outs' after.faults.items ≡ send_steps before.cfg before.plan more (lanes outs before.faults.items)
+    pub valid : AllByRecursion (λ (x : Stamped). AreValidMessages x.entry.sends) more
     pub in_step : IsInStep rules disk before → IsInStep rules disk after
 
   -- it took one step, of this event, with a stamp above this one

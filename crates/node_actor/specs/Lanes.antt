@@ -1,5 +1,5 @@
 -- The links from a node, with their faults, and what sends bring to them.
-use Rattle.std.specs.Prelude.{ℕ, zero, suc, Bool, if◌then◌else◌, List, [], ◌∷◌, ◌++◌, map, Option, Some, None}
+use Rattle.std.specs.Prelude.{ℕ, zero, suc, if◌then◌else◌, List, [], ◌∷◌, ◌++◌, map, Option, Some, None}
 use Rattle.link_faults.specs.declared.plan.FaultPlan.{FaultPlan}
 use Rattle.link_faults.specs.Faults.{Holding, held_frames, held_by, after_word, next_fate, what_is_queued}
 use Rattle.node_links.specs.declared.frame.Frame.{Frame}

@@ -3,6 +3,7 @@ pub mod Chunks
 pub mod Cores
 pub mod Ins
 pub mod Lanes
+pub mod Settling
 pub mod Steps
 pub mod Stops
 pub mod Stores

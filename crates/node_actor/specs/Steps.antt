@@ -1,5 +1,5 @@
 -- The steps of a node, whatever its type: its rules as a table, and what holds of each step of its own.
-use Rattle.std.specs.Prelude.{◌≡◌, List}
+use Rattle.std.specs.Prelude.{◌≡◌}
 use Rattle.msg_wire.specs.declared.config.Config.{Config}
 use Rattle.msg_wire.specs.Steps.{IsEventAt}
 use Rattle.msg_wire.specs.Valid.{IsNodeOf, IsValidEvent}

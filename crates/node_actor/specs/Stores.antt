@@ -6,7 +6,6 @@ use Rattle.gate_vault.specs.Vault.{KeepsWithGate, disk_of}
 use Rattle.spec_base.specs.declared.disk.Disk.{Ghosts as DiskRules}
 use Rattle.msg_wire.specs.Items.{items_spelling}
 use Rattle.msg_wire.specs.Steps.{IsVaultEntry}
-use Rattle.net_model.specs.Names.{Item}
 use Rattle.node_actor.specs.declared.store.Store.{Store}
 use Rattle.node_actor.specs.declared.store.Store.TheVariants as stores
 use Rattle.node_actor.specs.Chunks.{Chunks}

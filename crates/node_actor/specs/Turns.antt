@@ -4,6 +4,8 @@ use Rattle.net_model.specs.declared.journal.Stamped.{Stamped}
 use Rattle.net_model.specs.Names.{Message, Event}
 use Rattle.net_model.specs.Names.events
 use Rattle.node_actor.specs.declared.actor.NodeActor.{NodeActor}
+use Rattle.node_actor.specs.declared.taken.Taken.{Taken}
+use Rattle.node_actor.specs.declared.taken.Taken.TheVariants as takes
 use Rattle.node_actor.specs.Cores.{steps_of}
 
 -- in an episode of so many turns each sixteenth is a tick, and the last
@@ -18,6 +20,12 @@ IsStepOf event steps = (step : Stamped) × (steps ≡ step ∷ []) × (step.entr
 abbrev pub IsTurn : Bool → List Stamped → Type 0
 IsTurn true steps = IsStepOf events.Tick steps
 IsTurn false steps = (steps ≡ []) ⊎ ((message : Message) × IsStepOf (events.Deliver message) steps)
+
+-- the steps that come of a frame: one of its message, or none
+abbrev pub AreStepsOf : Taken → List Stamped → Type 0
+AreStepsOf takes.Input steps = (message : Message) × IsStepOf (events.Deliver message) steps
+AreStepsOf takes.NoInput steps = steps ≡ []
+AreStepsOf takes.Nothing steps = steps ≡ []
 
 -- the steps of so many turns from the first on, in an episode of so many
 abbrev pub AreTurns : ℕ → ℕ → List Stamped → Type 0

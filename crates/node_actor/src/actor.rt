@@ -1,18 +1,23 @@
-ghost use Rattle.std.specs.Prelude.{◌≡◌, ◌≤◌, true, false, None, IsTrue};
-ghost use Rattle.msg_wire.specs.Nodes.{is_client};
-ghost use Rattle.node_actor.specs.Cores.{IsReady};
-ghost use Rattle.node_actor.specs.Actors.{CanGoOn, Moved};
-ghost use Rattle.node_actor.specs.Turns.{AreTurns, IsStepOf, IsTurn, TookSteps, is_tick_due};
-ghost use Rattle.node_actor.specs.inside.Reacting.{Reacted};
+ghost use Rattle.std.specs.Prelude.{◌≡◌, ◌<◌, ◌≤◌, None, IsTrue, IsFalse, IsSome, length, get_or};
+ghost use Rattle.msg_wire.specs.Nodes.{is_client, is_sequencer};
+ghost use Rattle.msg_wire.specs.Valid.{IsValidCommand};
 ghost use Rattle.net_model.specs.Names.events;
+ghost use Rattle.node_links.specs.Links.{Receiving};
+ghost use Rattle.node_actor.specs.Cores.{IsReady};
+ghost use Rattle.node_actor.specs.Actors.{CanGoOn, EndedFaults, Moved};
+ghost use Rattle.node_actor.specs.Turns.{AreStepsOf, AreTurns, IsStepOf, IsTurn, TookSteps, is_tick_due};
+ghost use Rattle.node_actor.specs.declared.taken.Taken.TheVariants.{Input};
+ghost use Rattle.node_actor.specs.inside.Reacting.{Reacted};
 
-use crate::links::{pull_first, push_all};
+use crate::links::{pull_at, pull_first, push_all};
 use crate::node_core::NodeCore;
 use crate::stopped::Stopped;
-use net_model::NodeModel;
+use crate::taken::Taken;
+use msg_wire::Command;
+use net_model::{Journal, NodeModel};
 use node_links::{Frame, LinkIn, LinkOut};
 use record_codec::Body;
-use spec_base::Disk;
+use spec_base::{Disk, NodeId};
 
 /// A node as it takes turns: its core, and the ends of its links from and to all nodes, in their order.
 ///
@@ -51,6 +56,35 @@ impl<N: NodeModel + Drop, D: Disk + Drop> NodeActor<N, D> {
         self.stopped
     }
 
+    /// Which node it is.
+    pub fn name(&self) -> NodeId
+        ensures { result ≡ self.now.core.name }
+    {
+        self.core.name()
+    }
+
+    /// What the node is.
+    pub fn node(&self) -> &N
+        ensures { result.now ≡ self.now.core.node }
+    {
+        self.core.node()
+    }
+
+    /// The steps that it took.
+    pub fn journal(&self) -> &Journal
+        ensures { result.now ≡ self.now.core.journal }
+    {
+        self.core.journal()
+    }
+
+    /// How many frames are known to wait on the link from the node at a place.
+    pub fn waiting(&self, from: usize) -> usize
+        requires { from < length self.now.ins.items }
+        ensures { (into : Receiving) → result ≡ length (get_or self.now.ins.items from into).waiting }
+    {
+        self.ins[from].waiting()
+    }
+
     /// Its core and its links.
     pub fn into_parts(self) -> (NodeCore<N, D>, Vec<LinkOut>, Vec<LinkIn>)
         ensures { result ≡ (self.core, self.outs, self.ins) }
@@ -83,72 +117,176 @@ impl<N: NodeModel + Drop, D: Disk + Drop> NodeActor<N, D> {
         ensures steps { TookSteps (IsTurn (is_tick_due turn turns)) self.old self.new }
     {
         if is_tick_due(turn, turns) {
-            self.tick();
+            let _stepped = self.tick();
         } else {
-            let _took = self.take_frame();
+            let _taken = self.take_frame();
         }
     }
 
-    /// A step of a tick, after which it pushes what fits.
-    pub fn tick(&mut self)
+    /// A step of a tick, after which it pushes what fits. Whether it was taken: it wasn't exactly where the node is stopped.
+    pub fn tick(&mut self) -> bool
         requires going { CanGoOn ⟦<N as NodeModel>⟧ self.old }
         ensures moved { Moved ⟦<N as NodeModel>⟧ ⟦<D as Disk>⟧ self.old self.new }
-        ensures steps { TookSteps (IsTurn true) self.old self.new }
+        ensures steps { TookSteps (IsStepOf events.Tick) self.old self.new }
+        ensures taken { IsTrue result → self.new.stopped ≡ None }
+        ensures stopped { IsFalse result → IsSome self.new.stopped }
     {
-        if self.stopped.is_none() {
-            match self.core.tick(&mut self.outs) {
-                Ok(()) => push_all(&mut self.outs),
-                Err(stopped) => self.stopped = Some(stopped),
+        if self.stopped.is_some() {
+            return false;
+        }
+        match self.core.tick(&mut self.outs) {
+            Ok(()) => {
+                push_all(&mut self.outs);
+                true
+            }
+            Err(stopped) => {
+                self.stopped = Some(stopped);
+                false
             }
         }
     }
 
-    /// A step of a body that a submitter, 0 to 7, has for this client, after which it pushes what fits.
-    pub fn submit(&mut self, by: u8, body: Body)
+    /// A step of a body that a submitter, 0 to 7, has for this client, as `tick` is one.
+    pub fn submit(&mut self, by: u8, body: Body) -> bool
         requires going { CanGoOn ⟦<N as NodeModel>⟧ self.old }
         requires client { IsTrue (is_client self.old.core.name) }
         requires by { by ≤ 7 }
         ensures moved { Moved ⟦<N as NodeModel>⟧ ⟦<D as Disk>⟧ self.old self.new }
         ensures steps { TookSteps (IsStepOf (events.Submit by body)) self.old self.new }
-    {
-        if self.stopped.is_none() {
-            match self.core.submit(by, body, &mut self.outs) {
-                Ok(()) => push_all(&mut self.outs),
-                Err(stopped) => self.stopped = Some(stopped),
-            }
-        }
-    }
-
-    /// Takes the first frame that a link gives, asked round from the one after the link that gave last: a step of its message, after
-    /// which the node pushes what fits; no step where it brings none. False where no link gave a frame.
-    pub fn take_frame(&mut self) -> bool
-        requires going { CanGoOn ⟦<N as NodeModel>⟧ self.old }
-        ensures moved { Moved ⟦<N as NodeModel>⟧ ⟦<D as Disk>⟧ self.old self.new }
-        ensures steps { TookSteps (IsTurn false) self.old self.new }
+        ensures taken { IsTrue result → self.new.stopped ≡ None }
+        ensures stopped { IsFalse result → IsSome self.new.stopped }
     {
         if self.stopped.is_some() {
             return false;
         }
-        match pull_first(&mut self.ins, self.next) {
-            None => false,
-            Some((from, frame)) => {
-                self.next = from.saturating_add(1);
-                self.receive_from(from, &frame);
+        match self.core.submit(by, body, &mut self.outs) {
+            Ok(()) => {
+                push_all(&mut self.outs);
                 true
+            }
+            Err(stopped) => {
+                self.stopped = Some(stopped);
+                false
             }
         }
     }
 
+    /// A step in which this sequencer is told what to propose, as `tick` is one.
+    pub fn command(&mut self, command: Command) -> bool
+        requires going { CanGoOn ⟦<N as NodeModel>⟧ self.old }
+        requires sequencer { IsTrue (is_sequencer self.old.core.name) }
+        requires valid { IsValidCommand command }
+        ensures moved { Moved ⟦<N as NodeModel>⟧ ⟦<D as Disk>⟧ self.old self.new }
+        ensures steps { TookSteps (IsStepOf (events.Command command)) self.old self.new }
+        ensures taken { IsTrue result → self.new.stopped ≡ None }
+        ensures stopped { IsFalse result → IsSome self.new.stopped }
+    {
+        if self.stopped.is_some() {
+            return false;
+        }
+        match self.core.command(command, &mut self.outs) {
+            Ok(()) => {
+                push_all(&mut self.outs);
+                true
+            }
+            Err(stopped) => {
+                self.stopped = Some(stopped);
+                false
+            }
+        }
+    }
+
+    /// A step in which the node comes back with what its vault gives, as `tick` is one. The vault is read anew.
+    pub fn restart(&mut self) -> bool
+        requires going { CanGoOn ⟦<N as NodeModel>⟧ self.old }
+        ensures moved { Moved ⟦<N as NodeModel>⟧ ⟦<D as Disk>⟧ self.old self.new }
+        ensures steps { TookSteps (IsStepOf events.Restart) self.old self.new }
+        ensures taken { IsTrue result → self.new.stopped ≡ None }
+        ensures stopped { IsFalse result → IsSome self.new.stopped }
+    {
+        if self.stopped.is_some() {
+            return false;
+        }
+        match self.core.restart(&mut self.outs) {
+            Ok(()) => {
+                push_all(&mut self.outs);
+                true
+            }
+            Err(stopped) => {
+                self.stopped = Some(stopped);
+                false
+            }
+        }
+    }
+
+    /// The faults of its links end: what is held is queued, and from now on no message is lost, repeated, held or cut.
+    /// The node is stopped where memory is refused.
+    pub fn end_faults(&mut self)
+        requires going { CanGoOn ⟦<N as NodeModel>⟧ self.old }
+        ensures { EndedFaults ⟦<N as NodeModel>⟧ ⟦<D as Disk>⟧ self.old self.new }
+    {
+        if self.stopped.is_some() {
+            return;
+        }
+        match self.core.end_faults(&mut self.outs) {
+            Ok(()) => {}
+            Err(stopped) => self.stopped = Some(stopped),
+        }
+    }
+
+    /// Takes the first frame that a link gives, asked round from the one after the link that gave last: a step of its message, after
+    /// which the node pushes what fits, where it brings one.
+    pub fn take_frame(&mut self) -> Taken
+        requires going { CanGoOn ⟦<N as NodeModel>⟧ self.old }
+        ensures moved { Moved ⟦<N as NodeModel>⟧ ⟦<D as Disk>⟧ self.old self.new }
+        ensures steps { TookSteps (AreStepsOf result) self.old self.new }
+        ensures going { result ≡ Input → self.new.stopped ≡ None }
+    {
+        if self.stopped.is_some() {
+            return Taken::Nothing;
+        }
+        match pull_first(&mut self.ins, self.next) {
+            None => Taken::Nothing,
+            Some((from, frame)) => {
+                self.next = from.saturating_add(1);
+                self.receive_from(from, &frame)
+            }
+        }
+    }
+
+    /// Takes the next frame of the link from the node at this place, as `take_frame` takes one.
+    pub fn take_frame_from(&mut self, from: usize) -> Taken
+        requires going { CanGoOn ⟦<N as NodeModel>⟧ self.old }
+        requires within { from < length self.old.ins.items }
+        ensures moved { Moved ⟦<N as NodeModel>⟧ ⟦<D as Disk>⟧ self.old self.new }
+        ensures steps { TookSteps (AreStepsOf result) self.old self.new }
+        ensures going { result ≡ Input → self.new.stopped ≡ None }
+    {
+        if self.stopped.is_some() {
+            return Taken::Nothing;
+        }
+        match pull_at(&mut self.ins, from) {
+            None => Taken::Nothing,
+            Some(frame) => self.receive_from(from, &frame),
+        }
+    }
+
     /// What a frame brings that came on the link from the node at this place.
-    fn receive_from(&mut self, from: usize, frame: &Frame)
+    fn receive_from(&mut self, from: usize, frame: &Frame) -> Taken
         requires ready { IsReady ⟦<N as NodeModel>⟧ self.old.core }
         requires going { self.old.stopped ≡ None }
-        ensures { Reacted ⟦<N as NodeModel>⟧ ⟦<D as Disk>⟧ from frame.now self.old self.new }
+        ensures { Reacted ⟦<N as NodeModel>⟧ ⟦<D as Disk>⟧ from frame.now result self.old self.new }
     {
         match self.core.receive(from, frame, &mut self.outs) {
-            Ok(true) => push_all(&mut self.outs),
-            Ok(false) => {}
-            Err(stopped) => self.stopped = Some(stopped),
+            Ok(true) => {
+                push_all(&mut self.outs);
+                Taken::Input
+            }
+            Ok(false) => Taken::NoInput,
+            Err(stopped) => {
+                self.stopped = Some(stopped);
+                Taken::NoInput
+            }
         }
     }
 }

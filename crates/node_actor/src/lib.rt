@@ -11,12 +11,16 @@ mod node_core;
 mod noting;
 mod reading;
 mod sending;
+mod settling;
 mod stopped;
 mod store;
+mod taken;
 #[cfg(test)]
 mod tests;
 
 pub use actor::{NodeActor, is_tick_due};
 pub use node_core::NodeCore;
+pub use settling::settle_between;
 pub use stopped::Stopped;
 pub use store::Store;
+pub use taken::Taken;

@@ -1,6 +1,6 @@
 //! The ends of a node's links, in a turn.
 
-ghost use Rattle.std.specs.Prelude.{◌≡◌, ◌≤◌, List, length, IfSome, IfNone};
+ghost use Rattle.std.specs.Prelude.{◌≡◌, ◌<◌, ◌≤◌, List, length, IfSome, IfNone};
 ghost use Rattle.link_faults.specs.Faults.{Holding};
 ghost use Rattle.node_actor.specs.Lanes.{links_of, lanes};
 ghost use Rattle.node_actor.specs.inside.Reacting.{IsPulled};
@@ -38,10 +38,19 @@ fn pull_between(ins: &mut [LinkIn], from: usize, end: usize) -> Option<(usize, F
     ensures none { IfNone result (ins.new ≡ ins.old) }
 {
     for place in from..end {
-        match ins[place].pull() {
+        match pull_at(ins, place) {
             Some(frame) => return Some((place, frame)),
             None => {}
         }
     }
     None
+}
+
+/// The next frame of the link from the node at a place.
+pub fn pull_at(ins: &mut [LinkIn], place: usize) -> Option<Frame>
+    requires { place < length ins.old }
+    ensures some { IfSome result (λ frame. IsPulled ins.old ins.new place frame) }
+    ensures none { IfNone result (ins.new ≡ ins.old) }
+{
+    ins[place].pull()
 }

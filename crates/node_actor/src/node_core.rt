@@ -22,6 +22,7 @@ use crate::reading::read;
 use crate::sending::{release_all, send_all};
 use crate::stopped::Stopped;
 use crate::store::{Store, keep, reload};
+use core::mem::replace_with;
 use gate_vault::Vault;
 use link_faults::{FaultPlan, LinkFaults};
 use msg_wire::{Command, Config, Event, Items, Step};
@@ -186,34 +187,29 @@ impl<N: NodeModel + Drop, D: Disk + Drop> NodeCore<N, D> {
     /// The node comes back with what its vault gives, in a step of a restart. The vault is read anew.
     ///
     /// At an error the disk is kept; a further restart reads it again.
-    pub fn restart(self, outs: &mut [LinkOut]) -> (NodeCore<N, D>, Result<(), Stopped>)
-        requires ready { IsReady ⟦<N as NodeModel>⟧ self }
-        ensures ok { OnOk result.1 (Restarted ⟦<N as NodeModel>⟧ ⟦<D as Disk>⟧ self result.0 outs.old outs.new) }
-        ensures safely { StepsSafely ⟦<D as Disk>⟧ (stable_of ⟦<N as NodeModel>⟧ self events.Restart) result.1 self result.0 outs.old outs.new }
+    pub fn restart(&mut self, outs: &mut [LinkOut]) -> Result<(), Stopped>
+        requires ready { IsReady ⟦<N as NodeModel>⟧ self.old }
+        ensures ok { OnOk result (Restarted ⟦<N as NodeModel>⟧ ⟦<D as Disk>⟧ self.old self.new outs.old outs.new) }
+        ensures safely { StepsSafely ⟦<D as Disk>⟧ (stable_of ⟦<N as NodeModel>⟧ self.old events.Restart) result self.old self.new outs.old outs.new }
     {
-        let (mut core, items) = self.reloaded();
-        match items {
-            Ok(items) => {
-                let result = core.restart_by(&items, outs);
-                (core, result)
-            }
-            Err(stopped) => (core, Err(stopped)),
-        }
+        let items = self.read_vault()?;
+        self.restart_by(&items, outs)
     }
 
     /// Reads the vault anew.
-    fn reloaded(self) -> (NodeCore<N, D>, Result<Items, Stopped>)
-        ensures same { result.0 ≡ with_store self result.0.store }
-        ensures ok { (chunks : Chunks) → KeepsChunks ⟦<D as Disk>⟧ self.store chunks → IfOk result.1 (λ items. (items ≡ all_items chunks) × KeepsChunks ⟦<D as Disk>⟧ result.0.store chunks) }
-        ensures valid { IfOk result.1 AreValidItems }
-        ensures tells { (chunks : Chunks) → KeepsChunks ⟦<D as Disk>⟧ self.store chunks → TellsItems (D.seen (disk_in result.0.store)) }
-        ensures fault { IsErrOf result.1 DiskStopped → IsFaulty ⟦<D as Disk>⟧ self result.0 }
-        ensures no_fall { D.faults (disk_in self.store) ≤ D.faults (disk_in result.0.store) }
+    fn read_vault(&mut self) -> Result<Items, Stopped>
+        ensures same { self.new ≡ with_store self.old self.new.store }
+        ensures ok { (chunks : Chunks) → KeepsChunks ⟦<D as Disk>⟧ self.old.store chunks → IfOk result (λ items. (items ≡ all_items chunks) × KeepsChunks ⟦<D as Disk>⟧ self.new.store chunks) }
+        ensures valid { IfOk result AreValidItems }
+        ensures tells { (chunks : Chunks) → KeepsChunks ⟦<D as Disk>⟧ self.old.store chunks → TellsItems (D.seen (disk_in self.new.store)) }
+        ensures fault { IsErrOf result DiskStopped → IsFaulty ⟦<D as Disk>⟧ self.old self.new }
+        ensures no_fall { D.faults (disk_in self.old.store) ≤ D.faults (disk_in self.new.store) }
     {
-        let mut core = self;
-        let (store, items) = reload(core.alloc, core.store);
-        core.store = store;
-        (core, items)
+        replace_with(
+            &mut self.store,
+            self.alloc,
+            |store, alloc| reload(alloc, store),
+        )
     }
 
     /// The step of a restart, after which the node is what these items give.
@@ -236,6 +232,8 @@ impl<N: NodeModel + Drop, D: Disk + Drop> NodeCore<N, D> {
     pub fn end_faults(&mut self, outs: &mut [LinkOut]) -> Result<(), Stopped>
         requires ready { IsReady ⟦<N as NodeModel>⟧ self.old }
         ensures ok { OnOk result (FaultsEnded ⟦<N as NodeModel>⟧ ⟦<D as Disk>⟧ self.old self.new outs.old outs.new) }
+        ensures cfg { self.new.cfg ≡ self.old.cfg }
+        ensures name { self.new.name ≡ self.old.name }
         ensures links { links_of outs.new ≡ links_of outs.old }
         ensures memory { OnErr result (result ≡ Err NoMemory) }
         ensures disk { self.new.store ≡ self.old.store }

@@ -5,7 +5,7 @@ ghost use Rattle.node_actor.specs.Actors.{CanGoOn};
 ghost use Rattle.spec_base.specs.Spelling.{IsValidNode};
 ghost use Rattle.node_actor.specs.Cores.{IsReady};
 
-use crate::{NodeActor, NodeCore, Stopped};
+use crate::{NodeActor, NodeCore, Stopped, Taken};
 use gate_vault::Vault;
 use life_tables::clusters::SINGLE;
 use link_faults::{FaultPlan, LinkFaults};
@@ -169,7 +169,7 @@ const STORED: &[u8] = b"BELVAULT\x01\x00\x01\x07\x00";
 #[test]
 fn a_step_is_stored_sent_and_noted(rt: HostRuntime) -> Result<(), Fail> {
     let (mut actor, mut others, _feeders) = actor_of(rt.alloc(), &[])?;
-    actor.tick();
+    assert!(rt; actor.tick());
     assert!(rt; actor.stopped().is_none());
     assert_eq!(rt; count_frames(&mut others, 1, QUESTION), (1, true));
     let (core, _, _) = actor.into_parts();
@@ -190,7 +190,7 @@ const DISKS: [(&[u64], bool); 4] = [
 
 fn disk_row(rt: &impl Abort, alloc: Global, fails: &[u64], stops: bool) -> Result<(), Fail> {
     let (mut actor, mut others, _feeders) = actor_of(alloc, fails)?;
-    actor.tick();
+    assert_eq!(rt; actor.tick(), !stops);
     let count = if stops { 0 } else { 1 };
     assert_eq!(rt; actor.stopped() == Some(Stopped::Disk), stops);
     assert_eq!(rt; count_frames(&mut others, 1, QUESTION), (count, true));
@@ -244,7 +244,7 @@ fn frame_row(
         feeder.queue(frame)?;
         assert_eq!(rt; feeder.push_some(), 1);
     }
-    assert!(rt; actor.take_frame());
+    assert_eq!(rt; actor.take_frame() == Taken::Input, stamp.is_some());
     let (core, _, _) = actor.into_parts();
     assert_eq!(rt; core.journal().last_stamp(), stamp);
     Ok(())
@@ -262,7 +262,7 @@ fn a_frame_is_a_step_where_it_is_for_the_node(rt: HostRuntime) -> Result<(), Fai
         frame_row(&rt, alloc, place, frame, stamp)?;
     }
     let (mut actor, _others, _feeders) = actor_of(alloc, &[])?;
-    assert!(rt; !actor.take_frame());
+    assert_eq!(rt; actor.take_frame(), Taken::Nothing);
     Ok(())
 }
 
@@ -274,8 +274,7 @@ fn a_restart_takes_what_the_vault_gives(rt: HostRuntime) -> Result<(), Fail> {
     core.tick(&mut outs)?;
     core.tick(&mut outs)?;
     assert_eq!(rt; core.node().kept, 0);
-    let (core, restarted) = core.restart(&mut outs);
-    restarted?;
+    core.restart(&mut outs)?;
     assert_eq!(rt; core.node().kept, 2);
     assert_eq!(rt; core.journal().last_stamp(), Some(3));
     Ok(())

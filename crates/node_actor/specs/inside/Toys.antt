@@ -1,5 +1,5 @@
 -- A node for tests: at each tick it stores one item and asks the first sequencer for the first entry; it counts what its vault gave.
-use Rattle.std.specs.Prelude.{ℕ, true, false, Bool, List, [], ◌∷◌, length}
+use Rattle.std.specs.Prelude.{[], ◌∷◌}
 use Rattle.net_model.specs.Names.nodes
 use Rattle.msg_wire.specs.declared.message.What.TheVariants as whats
 use Rattle.msg_wire.specs.declared.item.Item.TheVariants as items

@@ -1,4 +1,4 @@
-use Rattle.std.proofs.Common.{◌≡◌, ◌∙◌, arith}
+use Rattle.std.proofs.Common.{◌∙◌, arith}
 use Rattle.node_actor.proofs.LaneLemmas.{links_set, lanes_kept}
 use Rattle.node_actor.proofs.links.push_all.Goals as goal
 

@@ -1,4 +1,4 @@
-use Rattle.std.proofs.Common.{◌≡◌, inl, inr, Some, None, get_or, sym, ap, ◌∙◌}
+use Rattle.std.proofs.Common.{inl, inr, Some, None, get_or, sym, ap, ◌∙◌}
 use Rattle.node_actor.specs.Lanes.{passed, at_place, lanes}
 use Rattle.node_actor.proofs.Results.{map_ok}
 use Rattle.node_actor.proofs.LaneLemmas.{passed_by_plan, passed_plainly, links_set, lanes_set, lanes_out, lanes_past}

@@ -1,5 +1,5 @@
-use Rattle.std.proofs.Common.{◌≡◌, inl, inr, get_or, map, sym, ap, ◌∙◌, arith}
-use Rattle.node_actor.specs.Lanes.{links_of, lanes, at_place, released}
+use Rattle.std.proofs.Common.{get_or, ap, ◌∙◌, arith}
+use Rattle.node_actor.specs.Lanes.{lanes, at_place, released}
 use Rattle.node_actor.proofs.LaneLemmas.{lane_after, links_set, lanes_set, release_more_at, all_released_min}
 use Rattle.node_actor.proofs.sending.release_all.Goals as goal
 

@@ -1,5 +1,4 @@
-use Rattle.std.proofs.Common.{◌≡◌, ◌+◌, ◌++◌, drop, Ok, ap, ◌∙◌, sym, subst}
-use Rattle.msg_wire.specs.Items.{items_spelling}
+use Rattle.std.proofs.Common.{◌≡◌, ◌+◌, ◌++◌, drop, ap, ◌∙◌, sym, subst}
 use Rattle.msg_wire.specs.Valid.{AreValidItems}
 use Rattle.node_actor.specs.Chunks.{all_items}
 use Rattle.node_actor.proofs.Loading.{next_of, read_more, valid_append}

@@ -1,6 +1,5 @@
 use Rattle.std.proofs.Common.{arith, ◌≡◌, ◌≤◌, ◌++◌, length, map, ap, ◌∙◌, subst}
 use Rattle.gate_vault.specs.Put.{TellsBeforeOrAfter}
-use Rattle.gate_vault.specs.Vault.{KeepsWithGate}
 use Rattle.msg_wire.specs.Items.{items_spelling}
 use Rattle.node_actor.specs.Stores.{KeepsChunks}
 use Rattle.node_actor.proofs.Keeping.{gate_keeps, kept_tells, failed_tells}

@@ -25,11 +25,12 @@ returns-in-Ok-true g c =
     (c.push_all.ensures.links ∙ ap links_of seen) (λ faults. c.push_all.ensures.queued faults ∙ ap (λ outs. lanes outs faults) seen) two in
     record {
       ins = refl;
-      goes = λ is. (
-        true,
-        subst (Received true g.N.NodeModel g.D.Disk c.args.from c.args.frame.now self.core c.receive.new.self self.outs.items)
-            (sym (with_items_is (with_items self.outs sent) pushed pushed_len)) three,
-      );
+      outs = ap links_of (with_items_is (with_items self.outs sent) pushed pushed_len) ∙ c.push_all.ensures.links ∙ ap links_of seen
+          ∙ c.receive.ensures.safely.1.links ∙ ap links_of first.value;
+      goes = λ is.
+          subst (Received true g.N.NodeModel g.D.Disk c.args.from c.args.frame.now self.core c.receive.new.self self.outs.items)
+          (sym (with_items_is (with_items self.outs sent) pushed pushed_len)) three;
+      going = λ is. c.requires.going;
       keeps = c.receive.ensures.safely.1.keeps;
       faulty = λ fails. absurd (is_none_some _ _ c.requires.going fails);
     }

@@ -1,4 +1,4 @@
-use Rattle.std.proofs.Common.{◌≡◌, ap, ◌∙◌}
+use Rattle.std.proofs.Common.{ap, ◌∙◌}
 use Rattle.net_model.specs.Names.events
 use Rattle.node_actor.specs.Chunks.{chunks_of}
 use Rattle.node_actor.specs.Cores.{past_at}
@@ -19,7 +19,7 @@ returns-clause-ok g c =
     took_one g.N.NodeModel g.D.Disk events.Restart 0 c.in_ok-stamp.stamp (with_store before store) c.finish.new.self c.in_ok-restarted.restarted c.step_into.new.out
     c.args.outs.now c.finish.new.outs (record { valid = ready.valid; here = ready.here; own = ready.own; unspent = ready.unspent })
     (record { valid = tt; taken_there = tt; addressed = tt }) c.in_ok-stamp.ensures.above
-    c.in_ok-step_into.ensures.gives made.ready
+    c.in_ok-step_into.ensures.gives c.in_ok-step_into.ensures.valid.sends made.ready
     c.finish.ensures.safely.links done.cfg done.name done.node done.plan done.journal done.sends
     (λ at. made.node ∙ ap (λ items. g.N.NodeModel.restarted before.cfg before.name items) (kept at).0)
     (λ at. done.stored (chunks_of table before.name (past_at before)) (kept at).1))
