@@ -1,0 +1,4 @@
+pub mod Submitting
+pub mod Noting
+pub mod Reading
+pub mod inside

@@ -1,0 +1,5 @@
+//! What submitters and readers do, turn by turn, and beside one another.
+
+mod beside;
+mod reading;
+mod submitting;
