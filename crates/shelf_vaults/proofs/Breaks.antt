@@ -1,5 +1,5 @@
 -- Where not all vaults can be had: what stands of the nodes before the one that failed, of that one, and of those behind it.
-use Rattle.std.proofs.Common.{◌≡◌, ℕ, zero, suc, List, [], ◌∷◌, ◌++◌, take, drop, Option, Some, Result, Ok, Err, OnErr, false, refl, sym, ap, ◌∙◌, subst}
+use Rattle.std.proofs.Common.{◌≡◌, ℕ, zero, suc, List, [], ◌∷◌, ◌++◌, map, take, drop, Option, Some, Result, Ok, Err, OnErr, false, refl, sym, ap, ◌∙◌, subst}
 use Rattle.std.specs.Prelude.{Contains}
 use Rattle.std.specs.List.{AllByRecursion, slice_get}
 use Rattle.std.proofs.lemmas.List.{take-append-drop}
@@ -98,6 +98,14 @@ still_on old new (node ∷ nodes) same on = (ap (λ s. s.is_out) same.0 ∙ on.0
 
 split_at : {X : Type 0} → (n : ℕ) (xs : List X) → take n xs ++ drop n xs ≡ xs
 split_at n xs = take-append-drop n xs
+
+-- what holds of each name and the disk of its vault
+pub each_disk : {D : Type 0} → (P : Sight D → Sight D → D → Type 0) (old new : List ℕ → Sight D) (nodes : List NodeId) (vs : List (Vault D))
+    → EachWith P old new nodes (map disk_of vs) → EachWith (λ s t v. P s t (disk_of v)) old new nodes vs
+each_disk P old new [] [] each = tt
+each_disk P old new [] (v ∷ vs) each = absurd each
+each_disk P old new (node ∷ nodes) [] each = absurd each
+each_disk P old new (node ∷ nodes) (v ∷ vs) each = (each.0, each_disk P old new nodes vs each.1)
 
 -- the disks of those before the one that failed have empty vaults
 empties : {D : Type 0} → (faults in_a_row : D → ℕ) (seen : D → Option (List ℕ)) (may_leave : D → List ℕ → Type 0) (old new : List ℕ → Sight D)

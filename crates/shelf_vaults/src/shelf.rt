@@ -1,4 +1,4 @@
-ghost use Rattle.std.specs.Prelude.{◌≡◌, ◌≤◌, ◌<◌, false, true, [], length, IfOk, IfErr, OnOk, OnErr, IsErrOf, IsTrue, List, ℕ, vec_len, vec_capacity};
+ghost use Rattle.std.specs.Prelude.{◌≡◌, ◌≤◌, ◌<◌, false, true, [], length, IfOk, IfErr, OnOk, OnErr, IsErrOf, IsTrue, List, ℕ, map, vec_len, vec_capacity};
 ghost use Rattle.std.specs.List.{AllByRecursion};
 ghost use Rattle.spec_base.specs.Shelf.{SameBut, GivesKept};
 ghost use Rattle.spec_base.specs.Spelling.{IsValidNode, node_name};
@@ -10,7 +10,7 @@ ghost use Rattle.shelf_vaults.specs.Sights.{sight, TellsBytes, IsOutAs, IsBackAs
 use crate::errors::ShelfError;
 use gate_vault::{Vault, VaultError};
 use quota_table::OutOfMemory;
-use spec_base::{NodeId, NodeName, Shelf, Stop, spell};
+use spec_base::{Disk, NodeId, NodeName, Shelf, Stop, spell};
 use std::alloc::Global;
 
 /// The name of a node as text.
@@ -83,26 +83,39 @@ fn format_one<H: Shelf>(
     }
 }
 
-/// The disks of so many vaults lie on the shelf again, each at its node's name. It takes no memory.
-pub fn give_back<H: Shelf>(shelf: &mut H, nodes: &[NodeId], vaults: Vec<Vault<H::D>>)
+/// The disks of so many nodes lie on the shelf again, each at its node's name. It takes no memory.
+pub fn give_back<H: Shelf>(shelf: &mut H, nodes: &[NodeId], disks: Vec<H::D>)
     requires valid { AllByRecursion IsValidNode nodes.now }
     requires names { HaveOwnNames nodes.now }
-    requires each { length nodes.now ≡ length vaults.items }
+    requires each { length nodes.now ≡ length disks.items }
     requires tells { IsTrue (H.tells shelf.old) }
     requires out { AreOut (sight H.faults H.in_a_row H.is_out H.given H.kept shelf.old) nodes.now }
     ensures others { (name : List ℕ) → IsNameOfNone nodes.now name → sight H.faults H.in_a_row H.is_out H.given H.kept shelf.new name
         ≡ sight H.faults H.in_a_row H.is_out H.given H.kept shelf.old name }
     ensures tells { H.tells shelf.new ≡ H.tells shelf.old }
-    ensures back { EachWith (λ old new vault. IsBackAs H.D.faults H.D.in_a_row old new (disk_of vault))
+    ensures back { EachWith (IsBackAs H.D.faults H.D.in_a_row)
         (sight H.faults H.in_a_row H.is_out H.given H.kept shelf.old)
-        (sight H.faults H.in_a_row H.is_out H.given H.kept shelf.new) nodes.now vaults.items }
+        (sight H.faults H.in_a_row H.is_out H.given H.kept shelf.new) nodes.now disks.items }
 {
-    let mut vaults = vaults;
-    while let Some(vault) = vaults.pop() {
-        let node = nodes[vaults.len()];
+    let mut disks = disks;
+    while let Some(disk) = disks.pop() {
+        let node = nodes[disks.len()];
         let spelled = spell(node);
-        shelf.back(name_of(&spelled), vault.into_disk());
+        shelf.back(name_of(&spelled), disk);
     }
+}
+
+/// The disks of vaults, in their order, in room that is there.
+pub(crate) fn disks_of<D: Disk + Drop>(vaults: Vec<Vault<D>>, room: Vec<D>) -> Vec<D>
+    requires none { room.items ≡ [] }
+    requires room { vec_len vaults ≤ vec_capacity room }
+    ensures { result.items ≡ map disk_of vaults.items }
+{
+    let mut disks = room;
+    for vault in vaults {
+        disks.push_reserved(vault.into_disk());
+    }
+    disks
 }
 
 /// An empty vault for each node, on the disk of its name, in their order. At an error all their disks lie on the shelf.
@@ -131,11 +144,13 @@ pub fn format_all<H: Shelf>(
         (sight H.faults H.in_a_row H.is_out H.given H.kept shelf.new)) }
 {
     let mut vaults = room(alloc, nodes.len())?;
+    let disks = room(alloc, nodes.len())?;
     for node in nodes {
         match format_one(alloc, shelf, *node) {
             Ok(vault) => vaults.push_reserved(vault),
             Err(error) => {
-                give_back(shelf, &nodes[..vaults.len()], vaults);
+                let made = vaults.len();
+                give_back(shelf, &nodes[..made], disks_of(vaults, disks));
                 return Err(error);
             }
         }

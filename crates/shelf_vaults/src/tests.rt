@@ -3,6 +3,7 @@
 ghost use Rattle.std.specs.Prelude.{◌≡◌, ℕ, List, Some, None, false, IfOk, OnOk, codes};
 ghost use Rattle.spec_base.specs.MemShelf.{is_out_of, kept_of};
 
+use crate::shelf::disks_of;
 use crate::{ShelfError, format_all, give_back};
 use quota_table::Bytes;
 use spec_base::{Disk, DiskFail, MemShelf, NodeId, Shelf, Side};
@@ -41,7 +42,8 @@ fn made_and_back(alloc: Global, shelf: &mut MemShelf, text: &mut String) -> Resu
     match format_all(alloc, shelf, &NODES) {
         Ok(vaults) => {
             let count = vaults.len();
-            give_back(shelf, &NODES, vaults);
+            let room = Vec::with_capacity(alloc, count)?;
+            give_back(shelf, &NODES, disks_of(vaults, room));
             write!(text, "{count} vaults")?;
         }
         Err(ShelfError::Fault { name }) => write!(text, "{name:?} failed")?,

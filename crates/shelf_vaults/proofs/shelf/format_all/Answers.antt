@@ -3,11 +3,11 @@ use Rattle.std.specs.List.{AllByRecursion}
 use Rattle.std.proofs.lemmas.Option.{slice_get-get_or}
 use Rattle.spec_base.specs.declared.node.NodeId.TheVariants as nodes
 use Rattle.spec_base.specs.Spelling.{node_name}
-use Rattle.gate_vault.specs.Vault.{KeepsWithGate, disk_of}
+use Rattle.gate_vault.specs.Vault.{KeepsWithGate}
 use Rattle.shelf_vaults.specs.Sights.{Sight, sight, EachWith, AreOn, AreOut, BreaksOff, IsBackAs, IsOutAs, IsNameOfNone, TellsBytes}
 use Rattle.shelf_vaults.proofs.Eaches.{each_stays}
 use Rattle.shelf_vaults.proofs.Forward.{each_after, others_after, none_before, none_front, none_take, own_take, outs_of, not_at, all_end}
-use Rattle.shelf_vaults.proofs.Breaks.{on_err, all_there, is_among, breaks_at_once, fault_among, broken_off}
+use Rattle.shelf_vaults.proofs.Breaks.{on_err, all_there, is_among, breaks_at_once, fault_among, each_disk, broken_off}
 use Rattle.shelf_vaults.proofs.shelf.format_all.Given
 use Rattle.shelf_vaults.proofs.shelf.format_all.Goals as goal
 
@@ -26,13 +26,13 @@ format_one-requires-clause-on_shelf g c = λ κs lives.
     (node_name node)).is_out ≡ false) c.args.nodes.now n _ c.requires.on_shelf there
 
 pub give_back-requires-clause-names : goal.give_back-requires-clause-names
-give_back-requires-clause-names g c = λ κs lives. own_take c.len.result c.args.nodes.now c.requires.names
+give_back-requires-clause-names g c = λ κs lives. own_take c.len-made.result c.args.nodes.now c.requires.names
 
 pub give_back-requires-clause-out : goal.give_back-requires-clause-out
 give_back-requires-clause-out g c = λ κs lives.
     let told = sight g.H.Shelf.faults g.H.Shelf.in_a_row g.H.Shelf.is_out g.H.Shelf.given g.H.Shelf.kept in
     let n = c.loop-node.node-index in
-    let at : n ≡ c.len.result = omega (arith, c.len.ensures, c.loop-node.invariant.size) in
+    let at : n ≡ c.len-made.result = omega (arith, c.len-made.ensures, c.loop-node.invariant.size) in
     let there = slice_get-get_or c.args.nodes.now n (nodes.Seq 0) c.loop-node-test.true in
     let node = slice_index_or c.args.nodes.now n (nodes.Seq 0) in
     let out = each_stays (IsOutAs g.H.D.Disk.faults) (told c.args.shelf.now) (told c.loop-node.shelf) (told c.format_one.new.shelf) (node_name node)
@@ -47,7 +47,7 @@ returns-in-Err-clause-others g c = λ name none.
     let n = c.loop-node.node-index in
     let there = slice_get-get_or c.args.nodes.now n (nodes.Seq 0) c.loop-node-test.true in
     let node = slice_index_or c.args.nodes.now n (nodes.Seq 0) in
-    c.give_back.ensures.others name (none_take c.len.result c.args.nodes.now name none)
+    c.give_back.ensures.others name (none_take c.len-made.result c.args.nodes.now name none)
     ∙ c.in-Err.ensures.others name (λ e. not_at c.args.nodes.now n node name there none (sym e))
     ∙ c.loop-node.invariant.others name (none_take n c.args.nodes.now name none)
 
@@ -62,14 +62,17 @@ after_break g c =
     let there = slice_get-get_or c.args.nodes.now n (nodes.Seq 0) c.loop-node-test.true in
     let node = slice_index_or c.args.nodes.now n (nodes.Seq 0) in
     let none = none_before c.args.nodes.now n node there c.requires.names in
-    let at : c.len.result ≡ n = omega (arith, c.len.ensures, c.loop-node.invariant.size) in
+    let at : c.len-made.result ≡ n = omega (arith, c.len-made.ensures, c.loop-node.invariant.size) in
     let left = subst (λ k. (name : List ℕ) → IsNameOfNone (take k c.args.nodes.now) name → told c.give_back.new.shelf name ≡ told
     c.format_one.new.shelf name) at
     c.give_back.ensures.others in
     let before = others_after (told c.args.shelf.now) (told c.loop-node.shelf) (told c.format_one.new.shelf) c.args.nodes.now n node there
     c.in-Err.ensures.others c.loop-node.invariant.others in
-    let back = subst (λ k. EachWith (λ s t v. IsBackAs g.H.D.Disk.faults g.H.D.Disk.in_a_row s t (disk_of v)) (told c.format_one.new.shelf)
-    (told c.give_back.new.shelf) (take k c.args.nodes.now) c.loop-node.vaults.items) at c.give_back.ensures.back in
+    let Back = IsBackAs g.H.D.Disk.faults g.H.D.Disk.in_a_row in
+    let back = each_disk Back (told c.format_one.new.shelf) (told c.give_back.new.shelf) (take n c.args.nodes.now) c.loop-node.vaults.items
+    (subst (EachWith Back (told c.format_one.new.shelf) (told c.give_back.new.shelf) (take n c.args.nodes.now)) c.disks_of.ensures
+    (subst (λ k. EachWith Back (told c.format_one.new.shelf) (told c.give_back.new.shelf) (take k c.args.nodes.now) c.disks_of.result.items) at
+    c.give_back.ensures.back)) in
     broken_off g.H.D.Disk.faults g.H.D.Disk.in_a_row g.H.D.Disk.seen g.H.D.Disk.may_leave (told c.args.shelf.now) (told c.give_back.new.shelf)
     (told c.format_one.new.shelf) c.args.nodes.now n node c.loop-node.vaults.items there c.requires.names c.requires.on_shelf
     (ap (λ (s : Sight g.row.H-D.Denot). s.is_out) (left (node_name node) none) ∙ c.in-Err.ensures.back)
@@ -88,7 +91,7 @@ returns-in-Err-clause-fault g c =
     let there = slice_get-get_or c.args.nodes.now n (nodes.Seq 0) c.loop-node-test.true in
     let node = slice_index_or c.args.nodes.now n (nodes.Seq 0) in
     let none = none_before c.args.nodes.now n node there c.requires.names in
-    let at : n ≡ c.len.result = omega (arith, c.len.ensures, c.loop-node.invariant.size) in
+    let at : n ≡ c.len-made.result = omega (arith, c.len-made.ensures, c.loop-node.invariant.size) in
     fault_among g.H.D.Disk.faults c.args.nodes.now (told c.args.shelf.now) (told c.give_back.new.shelf) node (told c.loop-node.shelf (node_name node))
     (told c.format_one.new.shelf (node_name node)) c.in-Err.error (c.loop-node.invariant.others (node_name node) none)
     (sym (c.give_back.ensures.others (node_name node) (subst (λ k. IsNameOfNone (take k c.args.nodes.now) (node_name node)) at none)))
