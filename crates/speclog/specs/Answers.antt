@@ -1,6 +1,5 @@
 -- What an answer of the program says.
-use Rattle.std.specs.Prelude.{◌≡◌, ◌↔◌, ◌⊎◌, ℕ, ◌<◌, Bool, true, false, IsTrue, nat_eq, if◌then◌else◌, List, [], ◌∷◌, length, Option, Some, None, codes}
-use Rattle.std.specs.Cmp.Lexicographic.{pointwise}
+use Rattle.std.specs.Prelude.{◌≡◌, ◌↔◌, ◌⊎◌, ℕ, ◌<◌, Bool, true, false, IsTrue, not, ◌&&◌, List, length, Option, Some, None}
 use Rattle.std.specs.Io.KnownBytes.{prepend_known, IsAtEnd}
 use Rattle.spec_base.specs.Faults.{RoseByOne}
 use Rattle.runs.specs.Names.{HistoryEntry}
@@ -10,6 +9,7 @@ use Rattle.speclog.specs.declared.input.ReadError.{ReadError}
 use Rattle.speclog.specs.declared.input.ReadError.TheVariants.{Failed, TooLong, OutOfMemory as read_out_of_memory}
 use Rattle.speclog.specs.Refusals.{refusal_of}
 use Rattle.speclog.specs.Plays.{Writes}
+use Rattle.speclog.specs.Words.{is_gen}
 
 -- the exit status of each fault
 abbrev pub status_of_fault : Fault → ℕ
@@ -28,12 +28,6 @@ status_of None = 0
 status_of (Some fault) = status_of_fault fault
 
 -- ---- words
-
--- the place of the first word that is not of the form `play`; 0 where there is none, and none where the words are so
-abbrev pub usage_place : List (List ℕ) → Option ℕ
-usage_place [] = Some 0
-usage_place (command ∷ []) = if pointwise nat_eq command (codes "play") then None else Some 0
-usage_place (command ∷ word ∷ words) = if pointwise nat_eq command (codes "play") then Some 1 else Some 0
 
 -- the place of a fault in the words
 abbrev pub usage_of : Option Fault → Option ℕ
@@ -73,11 +67,15 @@ CountsBlame false old new = new ≡ old
 
 -- ---- playing
 
--- a script was played to its end: the statuses 0 and 5
+-- of `play`: the script was played to its end, at the statuses 0 and 5
 abbrev pub has_history : Option Fault → Bool
 has_history None = true
 has_history (Some WriteFault) = true
 has_history _ = false
+
+-- a command of these words that ends so gives a history
+abbrev pub gives_history : List (List ℕ) → Option Fault → Bool
+gives_history words fault = not (is_gen words) && has_history fault
 
 -- nothing was asked of the sink: the statuses 2, 3 and 4
 abbrev pub is_unwritten : Option Fault → Bool

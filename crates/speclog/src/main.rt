@@ -1,7 +1,8 @@
-//! A sharded, speculative shared log, as a program: `speclog play` turns a script into a report.
+//! A sharded, speculative shared log, as a program: `speclog play` turns a script into a report, `speclog gen` writes a plan.
 #![tactic(auto)]
 
 mod fault;
+mod generate;
 mod input;
 mod looks;
 mod outcome;

@@ -14,7 +14,7 @@ pub struct Outcome {
     pub status: u8,
     /// None exactly at status 0.
     pub fault: Option<Fault>,
-    /// The run that was played: there exactly at the statuses 0 and 5.
+    /// The run that was played: there exactly at the statuses 0 and 5 of `play`.
     pub history: Option<History>,
     /// What the readers of a threaded run kept; empty so far.
     pub looks: LooksList,
@@ -31,9 +31,20 @@ impl Outcome {
         ensures looks { result.looks ≡ [] }
         ensures quiet { result.quiet ≡ false }
     {
+        Outcome::written(alloc, Some(fault))
+    }
+
+    /// A command that gives no history, and may have met a fault.
+    pub fn written(alloc: Global, fault: Option<Fault>) -> Outcome
+        ensures status { result.status ≡ status_of fault }
+        ensures fault { result.fault ≡ fault }
+        ensures history { result.history ≡ None }
+        ensures looks { result.looks ≡ [] }
+        ensures quiet { result.quiet ≡ false }
+    {
         Outcome {
-            status: fault.status(),
-            fault: Some(fault),
+            status: status_of(&fault),
+            fault,
             history: None,
             looks: Listed::new(alloc),
             quiet: false,
@@ -48,16 +59,22 @@ impl Outcome {
         ensures looks { result.looks ≡ [] }
         ensures quiet { result.quiet ≡ false }
     {
-        let status = match &fault {
-            Some(fault) => fault.status(),
-            None => 0,
-        };
         Outcome {
-            status,
+            status: status_of(&fault),
             fault,
             history: Some(history),
             looks: Listed::new(alloc),
             quiet: false,
         }
+    }
+}
+
+/// The exit status of a command: 0 where it met no fault.
+fn status_of(fault: &Option<Fault>) -> u8
+    ensures { result ≡ status_of fault.now }
+{
+    match fault {
+        Some(fault) => fault.status(),
+        None => 0,
     }
 }

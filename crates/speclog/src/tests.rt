@@ -13,6 +13,7 @@ use std::test::Fail;
 use std::thread::Threads;
 
 mod faults;
+mod generating;
 mod refusals;
 
 /// The head of one sequencer, one shard, one client and one consumer, with a window of 2 rounds of one place.

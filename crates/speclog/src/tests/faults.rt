@@ -49,12 +49,23 @@ fn plays_byte_by_byte(rt: HostRuntime) -> Result<(), Fail> {
 }
 
 /// Words, and the place of the first that does not fit.
-const WORDS: [(&[&str], usize); 5] = [
+const WORDS: [(&[&str], usize); 16] = [
     (&["play", "x"], 1),
     (&[], 0),
     (&["run"], 0),
-    (&["gen", "7", "200"], 0),
     (&["Play"], 0),
+    (&["gen"], 1),
+    (&["gen", "7"], 2),
+    (&["gen", "7", "0"], 2),
+    (&["gen", "7", "2001"], 2),
+    (&["gen", "7", "-1"], 2),
+    (&["gen", "7", "200", "x"], 3),
+    (&["gen", "", "200"], 1),
+    (&["gen", "seven"], 1),
+    (&["gen", "4294967296", "200"], 1),
+    (&["gen", "0000000000000000007", "1"], 1),
+    (&["gen", "x", "0", "x"], 1),
+    (&["genx", "7", "1"], 0),
 ];
 
 #[test]
