@@ -1,5 +1,6 @@
 -- An actor that takes a frame: where its messages came from stays true, and the new one came so too.
-use Rattle.std.proofs.Common.{◌≡◌, ◌≢◌, ◌⊎◌, inl, inr, ℕ, zero, suc, ◌<◌, List, [], ◌∷◌, ◌++◌, length, get_or, set, Bool, true, false, Option, None, Some, refl, sym, ap, ◌∙◌, subst, arith, append-nil}
+use Rattle.std.proofs.Common.{◌≡◌, ◌≢◌, ◌⊎◌, inl, inr, ℕ, zero, suc, ◌<◌, List, [], ◌∷◌, ◌++◌, length, get_or, set, Bool, true, false, Option, None, Some}
+use Rattle.std.proofs.Common.{refl, sym, ap, ◌∙◌, subst, arith, append-nil}
 use Rattle.std.specs.List.{Contains}
 use Rattle.std.proofs.lemmas.List.{get_or-set_same, get_or-set_other, length-set, get_or_default}
 use Rattle.std.proofs.lemmas.List.Elements.{Contains-append_left, Contains-append_right}
@@ -70,15 +71,19 @@ came_on cfg ins k f m stamp old new within there received (inr other) came = rec
   spelled = came.spelled;
 }
 
-pub still_came : (cfg : Config) (ins ins' : List Receiving) (k : ℕ) (f : Frame) (m : Message) (stamp : ℕ) → IsPulled ins ins' k f → CameBy cfg ins m stamp → CameBy cfg ins' m stamp
+pub still_came : (cfg : Config) (ins ins' : List Receiving) (k : ℕ) (f : Frame) (m : Message) (stamp : ℕ) → IsPulled ins ins' k f → CameBy cfg ins m stamp
+    → CameBy cfg ins' m stamp
 still_came cfg ins ins' k f m stamp p came =
-    subst (λ l. CameBy cfg l m stamp) (sym p.set) (came_on cfg ins k f m stamp p.old p.new p.within p.there p.received (same_or_not (rank_of cfg m.from) k) came)
+    subst (λ l. CameBy cfg l m stamp) (sym p.set) (came_on cfg ins k f m stamp p.old p.new p.within p.there p.received (same_or_not
+    (rank_of cfg m.from) k) came)
 
-pub still_taken : (cfg : Config) (ins ins' : List Receiving) (k : ℕ) (f : Frame) (steps : List Stamped) → IsPulled ins ins' k f → AreTaken cfg ins steps → AreTaken cfg ins' steps
+pub still_taken : (cfg : Config) (ins ins' : List Receiving) (k : ℕ) (f : Frame) (steps : List Stamped) → IsPulled ins ins' k f → AreTaken cfg ins steps
+    → AreTaken cfg ins' steps
 still_taken cfg ins ins' k f [] p all = tt
 still_taken cfg ins ins' k f (x ∷ steps) p all = (λ m is. still_came cfg ins ins' k f m x.stamp p (all.0 m is), still_taken cfg ins ins' k f steps p all.1)
 
-pub now_came : (cfg : Config) (name : NodeId) (ins ins' : List Receiving) (k : ℕ) (f : Frame) (m : Message) (stamp : ℕ) → IsPulled ins ins' k f → IsReadFrom cfg name k f.bytes m → f.stamp < stamp
+pub now_came : (cfg : Config) (name : NodeId) (ins ins' : List Receiving) (k : ℕ) (f : Frame) (m : Message) (stamp : ℕ) → IsPulled ins ins' k f
+    → IsReadFrom cfg name k f.bytes m → f.stamp < stamp
     → CameBy cfg ins' m stamp
 now_came cfg name ins ins' k f m stamp p read below =
     let rank : rank_of cfg m.from ≡ k = read.between.place in
@@ -100,7 +105,8 @@ taken_push cfg ins [] x all one = (one, tt)
 taken_push cfg ins (y ∷ steps) x all one = (all.0, taken_push cfg ins steps x all.1 one)
 
 -- a step of a message that came
-pub taken_more : (cfg : Config) (ins : List Receiving) (steps : List Stamped) (x : Stamped) (m : Message) → x.entry.event ≡ events.Deliver m → CameBy cfg ins m x.stamp
+pub taken_more : (cfg : Config) (ins : List Receiving) (steps : List Stamped) (x : Stamped) (m : Message) → x.entry.event ≡ events.Deliver m
+    → CameBy cfg ins m x.stamp
     → AreTaken cfg ins steps → AreTaken cfg ins (steps ++ x ∷ [])
 taken_more cfg ins steps x m is came all =
     taken_push cfg ins steps x all (λ n also. let same : m ≡ n = cc in subst (λ w. CameBy cfg ins w x.stamp) same came)
@@ -110,7 +116,8 @@ taken_more cfg ins steps x m is came all =
 some_none : (why : Stopped) → Some why ≡ None → ⊥
 some_none why e = absurd cc
 
-pub none_turned : {N D : Type 0} (rules : NodeRules N) (disk : DiskRules D) (core : NodeCore N D) (outs : List Sending) → IsReady rules core → Turned rules disk [] core core outs outs
+pub none_turned : {N D : Type 0} (rules : NodeRules N) (disk : DiskRules D) (core : NodeCore N D) (outs : List Sending) → IsReady rules core
+    → Turned rules disk [] core core outs outs
 none_turned rules disk core outs ready = record {
   ready = ready;
   cfg = refl;
@@ -127,7 +134,8 @@ pub none_kept : {N D : Type 0} (disk : DiskRules D) (core : NodeCore N D) → Ke
 none_kept disk core = record { cfg = refl; name = refl; no_fall = omega arith; tells = λ chunks kept. keeps_tells disk core.store chunks kept }
 
 -- frames that move into rings are queued as before
-pub push_turned : {N D : Type 0} (rules : NodeRules N) (disk : DiskRules D) (more : List Stamped) (before after : NodeCore N D) (outs outs' pushed : List Sending)
+pub push_turned : {N D : Type 0} (rules : NodeRules N) (disk : DiskRules D) (more : List Stamped) (before after : NodeCore N D)
+    (outs outs' pushed : List Sending)
     → links_of pushed ≡ links_of outs' → ((faults : List Holding) → lanes pushed faults ≡ lanes outs' faults)
     → Turned rules disk more before after outs outs' → Turned rules disk more before after outs pushed
 push_turned rules disk more before after outs outs' pushed links queued turned = record {
@@ -142,7 +150,8 @@ push_turned rules disk more before after outs outs' pushed links queued turned =
   in_step = turned.in_step;
 }
 
-pub items_kept : {N D : Type 0} (rules : NodeRules N) (disk : DiskRules D) (before after : NodeCore N D) → KeepsDisk disk before after → KeepsItems rules disk before after
+pub items_kept : {N D : Type 0} (rules : NodeRules N) (disk : DiskRules D) (before after : NodeCore N D) → KeepsDisk disk before after
+    → KeepsItems rules disk before after
 items_kept rules disk before after keeps = record {
   cfg = keeps.cfg;
   name = keeps.name;
@@ -167,7 +176,8 @@ module _ {N D : Type 0} (rules : NodeRules N) (disk : DiskRules D) where
     },
   )
 
-  none_went : (actor moved : NodeActor N D) → moved.core ≡ actor.core → moved.outs.items ≡ actor.outs.items → moved.ins.items ≡ actor.ins.items → IsReady rules actor.core
+  none_went : (actor moved : NodeActor N D) → moved.core ≡ actor.core → moved.outs.items ≡ actor.outs.items → moved.ins.items ≡ actor.ins.items
+      → IsReady rules actor.core
       → WentOn rules disk actor moved
   none_went actor moved core outs ins ready = record {
     more = [];
@@ -224,7 +234,8 @@ module _ {N D : Type 0} (rules : NodeRules N) (disk : DiskRules D) where
   frame_moved taken actor mid after from frame calm ready core outs pulled reacted = record {
     goes = λ is.
         let stepped = is_input taken in
-        let received = subst (λ (c : NodeCore N D). Received stepped rules disk from frame c after.core mid.outs.items after.outs.items) core (reacted.goes is) in
+        let received = subst (λ (c : NodeCore N D). Received stepped rules disk from frame c after.core mid.outs.items after.outs.items) core
+        (reacted.goes is) in
         took_on actor mid after from frame ready pulled (sym reacted.ins) stepped
         (subst (λ o. Received stepped rules disk from frame actor.core after.core o after.outs.items) outs received);
     was = λ is. calm;

@@ -26,7 +26,14 @@ pub failed_tells : (seen : Option (List ℕ)) (chunks : Chunks) (items : List It
     → TellsBeforeOrAfter seen (map items_spelling chunks) (items_spelling items) → TellsItems seen
 failed_tells seen chunks items all one (file, told, inl before) = record { file = file; chunks = chunks; told = told; stands = before; entries = all }
 failed_tells seen chunks items all one (file, told, inr after) =
-    record { file = file; chunks = chunks ++ items ∷ []; told = told; stands = subst (StandsWithGate file) (sym (spelled_more chunks items)) after; entries = all_entries chunks (items ∷ []) all (one, tt) }
+    record {
+      file = file;
+      chunks = chunks ++ items ∷ [];
+      told = told;
+      stands = subst (StandsWithGate file) (sym
+          (spelled_more chunks items)) after;
+      entries = all_entries chunks (items ∷ []) all (one, tt);
+    }
 
 -- a file with the byte of its last gate is one that stands for the same entries
 pub gate_keeps : {D : Type 0} (disk : DiskRules D) (vault : Vault D) (entries : List (List ℕ)) → KeepsWithGate disk.seen disk.may_leave vault entries
@@ -62,6 +69,7 @@ pub record IsKeptFile (seen : Option (List ℕ)) (chunks : Chunks) : Type 0 wher
   pub stands : StandsWithGate file (map items_spelling chunks)
   pub entries : AreEntries chunks
 
-pub kept_file : {D : Type 0} (disk : DiskRules D) (store : Store D) (chunks : Chunks) → KeepsChunks disk store chunks → IsKeptFile (disk.seen (disk_in store)) chunks
+pub kept_file : {D : Type 0} (disk : DiskRules D) (store : Store D) (chunks : Chunks) → KeepsChunks disk store chunks
+    → IsKeptFile (disk.seen (disk_in store)) chunks
 kept_file disk (stores.Open vault) chunks keeps = record { file = keeps.0.file; told = keeps.0.told; stands = keeps.0.stands; entries = keeps.1 }
 kept_file disk (stores.Shut only) chunks keeps = absurd keeps

@@ -1,5 +1,6 @@
 -- The links from a node, one of which is written.
-use Rattle.std.proofs.Common.{◌≡◌, ◌⊎◌, inl, inr, ℕ, zero, suc, ◌+◌, min, ◌<◌, ◌≤◌, List, [], ◌∷◌, ◌++◌, length, map, get_or, set, Some, None, refl, sym, ap, ◌∙◌, append_assoc, arith}
+use Rattle.std.proofs.Common.{◌≡◌, ◌⊎◌, inl, inr, ℕ, zero, suc, ◌+◌, min, ◌<◌, ◌≤◌, List, [], ◌∷◌, ◌++◌, length, map, get_or, set, Some, None, refl, sym, ap}
+use Rattle.std.proofs.Common.{◌∙◌, append_assoc, arith}
 use Rattle.link_faults.specs.declared.plan.FaultPlan.{FaultPlan}
 use Rattle.link_faults.specs.Faults.{Holding, held_frames, held_by, after_word, next_fate, what_is_queued}
 use Rattle.node_links.specs.declared.frame.Frame.{Frame}
@@ -23,7 +24,11 @@ pub passed_by_plan : (plan : FaultPlan) (f : Frame) (o o' : Sending) (h h' : Hol
     → queued o' ≡ queued o ++ what_is_queued (next_fate plan h) f h.held → h'.words ≡ after_word h.words → h'.held ≡ held_by (next_fate plan h) f
     → lane o' h' ≡ passed (Some plan) f (lane o h)
 passed_by_plan plan f o o' h h' is words held =
-    lane_is (queued o') (queued o ++ what_is_queued (next_fate plan h) f h.held) h' (record { words = after_word h.words; held = held_by (next_fate plan h) f }) is words held
+    lane_is (queued o') (queued o ++ what_is_queued (next_fate plan h) f h.held) h' (record {
+      words = after_word h.words;
+      held = held_by
+          (next_fate plan h) f;
+    }) is words held
 
 pub passed_plainly : (f : Frame) (o o' : Sending) (h : Holding) → o'.pushed ≡ o.pushed → o'.waiting ≡ o.waiting ++ f ∷ [] → lane o' h ≡ passed None f (lane o h)
 passed_plainly f o o' h pushed waiting =
@@ -37,7 +42,8 @@ links_set [] k d o below same = absurd (omega arith)
 links_set (x ∷ outs) zero d o below same = ap (λ (n : LinkName). n ∷ links_of outs) same
 links_set (x ∷ outs) (suc k) d o below same = ap (λ l. x.link ∷ l) (links_set outs k d o (omega arith) same)
 
-pub lanes_set : (change : Lane → Lane) (outs : List Sending) (faults : List Holding) (k : ℕ) (d o : Sending) (e h : Holding) → k < length outs → k < length faults
+pub lanes_set : (change : Lane → Lane) (outs : List Sending) (faults : List Holding) (k : ℕ) (d o : Sending) (e h : Holding) → k < length outs
+    → k < length faults
     → lane o h ≡ change (lane (get_or outs k d) (get_or faults k e)) → lanes (set outs k o) (set faults k h) ≡ at_place k change (lanes outs faults)
 lanes_set change [] faults k d o e h below here is = absurd (omega arith)
 lanes_set change (x ∷ outs) [] k d o e h below here is = absurd (omega arith)
@@ -98,7 +104,8 @@ all_released_min k outs faults past = all_released k outs faults (which (length 
   which : (a b k : ℕ) → min a b ≤ k → (a ≤ k) ⊎ (b ≤ k)
   which a b k past = grind arith
 
-pub lane_after : (o o' : Sending) (h h' : Holding) → queued o' ≡ queued o ++ held_frames h.held → h' ≡ record { words = h.words; held = None } → lane o' h' ≡ released (lane o h)
+pub lane_after : (o o' : Sending) (h h' : Holding) → queued o' ≡ queued o ++ held_frames h.held → h' ≡ record { words = h.words; held = None }
+    → lane o' h' ≡ released (lane o h)
 lane_after o o' h h' is none = ap (λ q. lane_with q h') is ∙ ap (lane_with (queued o ++ held_frames h.held)) none
 
 -- ---- frames that move into a ring

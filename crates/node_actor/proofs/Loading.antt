@@ -1,5 +1,6 @@
 -- The items of a vault's entries, entry after entry.
-use Rattle.std.proofs.Common.{◌≡◌, ℕ, zero, suc, ◌+◌, ◌<◌, List, [], ◌∷◌, ◌++◌, length, map, drop, get_or, Bool, true, false, refl, sym, ap, ◌∙◌, subst, append_assoc, append-nil, arith}
+use Rattle.std.proofs.Common.{◌≡◌, ℕ, zero, suc, ◌+◌, ◌<◌, List, [], ◌∷◌, ◌++◌, length, map, drop, get_or, Bool, true, false, refl, sym, ap, ◌∙◌, subst}
+use Rattle.std.proofs.Common.{append_assoc, append-nil, arith}
 use Rattle.msg_wire.specs.Items.{items_spelling}
 use Rattle.msg_wire.specs.Nodes.{same_node}
 use Rattle.msg_wire.specs.Steps.{IsVaultEntry}
@@ -24,15 +25,23 @@ next_chunk (c ∷ chunks) zero d all below = record { items = c; split = refl; s
 next_chunk (c ∷ chunks) (suc index) d all below =
     let later = next_chunk chunks index d all.1 (omega arith) in
     let at : suc index + 1 ≡ suc (index + 1) = omega arith in
-    record { items = later.items; split = later.split ∙ ap (λ k. later.items ++ all_items (drop k (c ∷ chunks))) (sym at); spelled = later.spelled; valid = later.valid }
+    record {
+      items = later.items;
+      split = later.split ∙ ap (λ k. later.items ++ all_items (drop k (c ∷ chunks)))
+          (sym at);
+      spelled = later.spelled;
+      valid = later.valid;
+    }
 
-pub next_of : (chunks : Chunks) (entries : List (List ℕ)) (index : ℕ) (d : List ℕ) → AreEntries chunks → entries ≡ map items_spelling chunks → index < length entries
+pub next_of : (chunks : Chunks) (entries : List (List ℕ)) (index : ℕ) (d : List ℕ) → AreEntries chunks → entries ≡ map items_spelling chunks
+    → index < length entries
     → IsNextChunk chunks index (get_or entries index d)
 next_of chunks entries index d all spelled below =
     subst (λ es. IsNextChunk chunks index (get_or es index d)) (sym spelled) (next_chunk chunks index d all (subst (λ es. index < length es) spelled below))
 
 -- with the items of the next entry behind them
-pub read_more : (so_far all : List Item) (chunks : Chunks) (index : ℕ) (items : List Item) → all_items (drop index chunks) ≡ items ++ all_items (drop (index + 1) chunks)
+pub read_more : (so_far all : List Item) (chunks : Chunks) (index : ℕ) (items : List Item)
+    → all_items (drop index chunks) ≡ items ++ all_items (drop (index + 1) chunks)
     → so_far ++ all_items (drop index chunks) ≡ all → (so_far ++ items) ++ all_items (drop (index + 1) chunks) ≡ all
 read_more so_far all chunks index items split so =
     append_assoc so_far items (all_items (drop (index + 1) chunks)) ∙ ap (λ l. so_far ++ l) (sym split) ∙ so

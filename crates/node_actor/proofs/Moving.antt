@@ -20,7 +20,8 @@ use Rattle.node_actor.specs.Stores.{disk_in}
 use Rattle.node_actor.proofs.Going.{none_moved, is_none_some, items_kept, none_kept}
 use Rattle.node_actor.proofs.Turning.{failed_since}
 
-steps_append : (cfg : Config) (plan : Option FaultPlan) (a b : List Stamped) (ls : List Lane) → send_steps cfg plan (a ++ b) ls ≡ send_steps cfg plan b (send_steps cfg plan a ls)
+steps_append : (cfg : Config) (plan : Option FaultPlan) (a b : List Stamped) (ls : List Lane)
+    → send_steps cfg plan (a ++ b) ls ≡ send_steps cfg plan b (send_steps cfg plan a ls)
 steps_append cfg plan [] b ls = refl
 steps_append cfg plan (x ∷ a) b ls = steps_append cfg plan a b (send_messages cfg plan x.stamp x.entry.sends ls)
 
@@ -29,7 +30,8 @@ module _ {N D : Type 0} (rules : NodeRules N) (disk : DiskRules D) where
       → Turned rules disk (one ++ two) a c x z
   turned_then one two a b c x y z first second =
       let lanes_are : lanes z c.faults.items ≡ send_steps a.cfg a.plan two (lanes y b.faults.items) =
-      second.sends ∙ ap (λ cfg. send_steps cfg b.plan two (lanes y b.faults.items)) first.cfg ∙ ap (λ plan. send_steps a.cfg plan two (lanes y b.faults.items)) first.plan in
+      second.sends ∙ ap (λ cfg. send_steps cfg b.plan two (lanes y b.faults.items)) first.cfg
+      ∙ ap (λ plan. send_steps a.cfg plan two (lanes y b.faults.items)) first.plan in
       record {
         ready = second.ready;
         cfg = second.cfg ∙ first.cfg;
@@ -62,7 +64,8 @@ module _ {N D : Type 0} (rules : NodeRules N) (disk : DiskRules D) where
   keeps_by a b c (Some why) stopped first second =
       subst (λ (d : NodeActor N D). KeepsItems rules disk a.core d.core) (sym (second.rests why stopped)) first.keeps
 
-  faulty_by : (a b c : NodeActor N D) (s : Option Stopped) → b.stopped ≡ s → Moved rules disk a b → Moved rules disk b c → a.stopped ≡ None → c.stopped ≡ Some stops.Disk
+  faulty_by : (a b c : NodeActor N D) (s : Option Stopped) → b.stopped ≡ s → Moved rules disk a b → Moved rules disk b c → a.stopped ≡ None
+      → c.stopped ≡ Some stops.Disk
       → IsFaulty disk a.core c.core
   faulty_by a b c None calm first second was fails =
       failed_since (disk.faults (disk_in a.core.store)) (disk.faults (disk_in b.core.store)) (disk.faults (disk_in c.core.store))

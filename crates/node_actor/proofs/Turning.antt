@@ -29,7 +29,8 @@ use Rattle.gate_vault.specs.Put.{FailedTwice}
 use Rattle.node_actor.proofs.Loading.{stored_is}
 
 -- any event but a restart leaves what the table says
-pub leaves_after : {S : Type 0} (table : StepTable S) (event : Event) (p : Progress S) → is_restart event ≡ false → state_after table event p ≡ table.leaves p.state event
+pub leaves_after : {S : Type 0} (table : StepTable S) (event : Event) (p : Progress S) → is_restart event ≡ false
+    → state_after table event p ≡ table.leaves p.state event
 leaves_after table events.Restart p is = absurd cc
 leaves_after table (events.Submit by body) p is = refl
 leaves_after table (events.Deliver message) p is = refl
@@ -55,7 +56,8 @@ module _ {N D : Type 0} (rules : NodeRules N) (disk : DiskRules D) where
   abbrev pub progress : Config → NodeId → Past → N → Progress N
   progress cfg name past node = record { stored = items_of (table_at rules cfg name) name past; state = node }
 
-  pub one_more : (cfg : Config) (name : NodeId) (past : Past) (node node' : N) (store store' : Store D) (event : Event) → HasCome rules disk cfg name past node store
+  pub one_more : (cfg : Config) (name : NodeId) (past : Past) (node node' : N) (store store' : Store D) (event : Event)
+      → HasCome rules disk cfg name past node store
       → IsNodeOf cfg name → CanTake name event → node' ≡ state_after (table_at rules cfg name) event (progress cfg name past node)
       → KeepsChunks disk store' (chunks_of (table_at rules cfg name) name past ++ chunk_of (rules.gives node event).stable)
       → HasCome rules disk cfg name (entry name event (rules.gives node event) ∷ past) node' store'
@@ -88,23 +90,28 @@ module _ {N D : Type 0} (rules : NodeRules N) (disk : DiskRules D) where
   -- the parts of what the end of a step does, and what it means for the node
   pub took_one : (event : Event) (above stamp : ℕ) (before after : NodeCore N D) (node : N) (step : Step) (outs outs' : List Sending)
       → IsReady rules before → CanTake before.name event → above < stamp → step ≡ rules.gives before.node event → AreValidMessages step.sends
-      → rules.is_spent node ≡ false → links_of outs' ≡ links_of outs → after.cfg ≡ before.cfg → after.name ≡ before.name → after.node ≡ node → after.plan ≡ before.plan
+      → rules.is_spent node ≡ false → links_of outs' ≡ links_of outs → after.cfg ≡ before.cfg → after.name ≡ before.name → after.node ≡ node
+      → after.plan ≡ before.plan
       → after.journal ≡ journal_after before event stamp step
       → lanes outs' after.faults.items ≡ send_messages before.cfg before.plan stamp step.sends (lanes outs before.faults.items)
-      → (IsInStep rules disk before → node ≡ state_after (table_at rules before.cfg before.name) event (progress before.cfg before.name (past_at before) before.node))
+      → (IsInStep rules disk before → node ≡ state_after (table_at rules before.cfg before.name) event (progress before.cfg before.name
+      (past_at before) before.node))
       → (IsInStep rules disk before
       → KeepsChunks disk after.store (chunks_of (table_at rules before.cfg before.name) before.name (past_at before) ++ chunk_of step.stable))
       → TookOne rules disk event above before after outs outs'
-  took_one event above stamp before after node step outs outs' ready takes over gives valid unspent links cfg_is name_is is_node plan_is journal sends leaves keeps =
+  took_one event above stamp before after node step outs outs' ready takes over gives valid unspent links cfg_is name_is is_node plan_is journal sends leaves
+      keeps =
       let x = noted before.journal.node event stamp step in
       let node_is : after.journal.node ≡ before.journal.node = ap (λ (j : OwnSteps). j.node) journal in
       let steps_are : after.journal.steps ≡ before.journal.steps ++ x ∷ [] = ap (λ (j : OwnSteps). j.steps) journal in
       let past_is : past_at after ≡ entry before.name event (rules.gives before.node event) ∷ past_at before =
       ap past_in steps_are ∙ past_push before.journal.steps x
       ∙ ap (λ n. entry n event step ∷ past_at before) ready.own ∙ ap (λ s. entry before.name event s ∷ past_at before) gives in
-      let come : IsInStep rules disk before → HasCome rules disk before.cfg before.name (entry before.name event (rules.gives before.node event) ∷ past_at before) after.node after.store =
+      let come : IsInStep rules disk before → HasCome rules disk before.cfg before.name (entry before.name event
+      (rules.gives before.node event) ∷ past_at before) after.node after.store =
       λ at. one_more before.cfg before.name (past_at before) before.node after.node before.store after.store event at ready.here takes (is_node ∙ leaves at)
-      (subst (λ (s : Step). KeepsChunks disk after.store (chunks_of (table_at rules before.cfg before.name) before.name (past_at before) ++ chunk_of s.stable)) gives (keeps at)) in
+      (subst (λ (s : Step). KeepsChunks disk after.store (chunks_of (table_at rules before.cfg before.name) before.name
+      (past_at before) ++ chunk_of s.stable)) gives (keeps at)) in
       record {
         step = x;
         event_is = refl;

@@ -83,7 +83,8 @@ module _ {N D : Type 0} where
     pub in_step : IsInStep rules disk before → IsInStep rules disk after
 
   -- it took one step, of this event, with a stamp above this one
-  pub record TookOne (rules : NodeRules N) (disk : DiskRules D) (event : Event) (above : ℕ) (before after : NodeCore N D) (outs outs' : List Sending) : Type 0 where
+  pub record TookOne (rules : NodeRules N) (disk : DiskRules D) (event : Event) (above : ℕ) (before after : NodeCore N D)
+      (outs outs' : List Sending) : Type 0 where
     pub step : Stamped
     pub event_is : step.entry.event ≡ event
     pub above_is : above < step.stamp
@@ -120,7 +121,8 @@ module _ {N D : Type 0} where
       (outs' ≡ outs) ⊎ ((chunks : Chunks) → KeepsChunks disk before.store chunks → KeepsChunks disk after.store (chunks ++ chunk_of stable))
 
   -- what holds of a step that stores these items, whatever comes of it
-  pub record StepsSafely {T : Type 0} (disk : DiskRules D) (stable : List Item) (result : Result T Stopped) (before after : NodeCore N D) (outs outs' : List Sending) : Type 0 where
+  pub record StepsSafely {T : Type 0} (disk : DiskRules D) (stable : List Item) (result : Result T Stopped) (before after : NodeCore N D)
+      (outs outs' : List Sending) : Type 0 where
     pub links : links_of outs' ≡ links_of outs
     pub keeps : KeepsDisk disk before after
     pub first : StoresFirst disk stable before after outs outs'
@@ -130,6 +132,7 @@ module _ {N D : Type 0} where
   -- a step of the message that a frame brings; none, and nothing changed, where it brings none
   abbrev pub Received : Bool → NodeRules N → DiskRules D → ℕ → Frame → NodeCore N D → NodeCore N D → List Sending → List Sending → Type 0
   Received true rules disk from frame before after outs outs' =
-      (message : Message) × IsReadFrom before.cfg before.name from frame.bytes message × TookOne rules disk (events.Deliver message) frame.stamp before after outs outs'
+      (message : Message) × IsReadFrom before.cfg before.name from frame.bytes message × TookOne rules disk
+      (events.Deliver message) frame.stamp before after outs outs'
   Received false rules disk from frame before after outs outs' =
       (after ≡ before) × (outs' ≡ outs) × ((message : Message) → IsReadFrom before.cfg before.name from frame.bytes message → ⊥)

@@ -10,7 +10,8 @@ use Rattle.gate_vault.specs.declared.vault.Vault.{Vault}
 use Rattle.gate_vault.specs.Vault.{KeepsWithGate, disk_of}
 use Rattle.shelf_vaults.specs.declared.errors.ShelfError.{ShelfError}
 use Rattle.shelf_vaults.specs.declared.errors.ShelfError.TheVariants as errors
-use Rattle.shelf_vaults.specs.Sights.{Sight, EachWith, AreOn, BreaksOff, HasEmptyVault, IsBackAs, IsFaultOf, IsFaultAmong, FailedThere, IsNameOfNone, HaveOwnNames}
+use Rattle.shelf_vaults.specs.Sights.{Sight, EachWith, AreOn, BreaksOff, HasEmptyVault, IsBackAs, IsFaultOf, IsFaultAmong, FailedThere, IsNameOfNone}
+use Rattle.shelf_vaults.specs.Sights.{HaveOwnNames}
 
 pub on_err : {T E : Type 0} → (r : Result T E) (P : Type 0) → P → OnErr r P
 on_err (Ok x) P holds = tt

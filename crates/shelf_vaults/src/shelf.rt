@@ -5,7 +5,8 @@ ghost use Rattle.spec_base.specs.Spelling.{IsValidNode, node_name};
 ghost use Rattle.spec_base.specs.declared.stop.Stop.TheVariants.{Failed};
 ghost use Rattle.gate_vault.specs.Put.{FailedTwice};
 ghost use Rattle.gate_vault.specs.Vault.{KeepsWithGate, disk_of};
-ghost use Rattle.shelf_vaults.specs.Sights.{sight, TellsBytes, IsOutAs, IsBackAs, EachWith, AreOn, AreOut, AllTell, BreaksOff, IsFaultAmong, IsFaultOf, IsNoFall, IsNameOfNone, HaveOwnNames};
+ghost use Rattle.shelf_vaults.specs.Sights.{sight, TellsBytes, IsOutAs, IsBackAs, EachWith, AreOn, AreOut, AllTell, BreaksOff, IsFaultAmong, IsFaultOf};
+ghost use Rattle.shelf_vaults.specs.Sights.{IsNoFall, IsNameOfNone, HaveOwnNames};
 
 use crate::errors::ShelfError;
 use gate_vault::{Vault, VaultError};

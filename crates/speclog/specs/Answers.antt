@@ -4,7 +4,8 @@ use Rattle.std.specs.Io.KnownBytes.{prepend_known, IsAtEnd}
 use Rattle.spec_base.specs.Faults.{RoseByOne}
 use Rattle.runs.specs.Names.{HistoryEntry}
 use Rattle.speclog.specs.declared.fault.Fault.{Fault}
-use Rattle.speclog.specs.declared.fault.Fault.TheVariants.{Usage, ReadFault, InputTooLong, Script, NoMessage, TooLong as too_many_entries, OutOfMemory, WriteFault}
+use Rattle.speclog.specs.declared.fault.Fault.TheVariants.{Usage, ReadFault, InputTooLong, Script, NoMessage, TooLong as too_many_entries, OutOfMemory}
+use Rattle.speclog.specs.declared.fault.Fault.TheVariants.{WriteFault}
 use Rattle.speclog.specs.declared.input.ReadError.{ReadError}
 use Rattle.speclog.specs.declared.input.ReadError.TheVariants.{Failed, TooLong, OutOfMemory as read_out_of_memory}
 use Rattle.speclog.specs.Refusals.{refusal_of}
@@ -96,7 +97,8 @@ refusal_in _ = None
 -- what an answer says of the input, of which these bytes were read, and of the sink: too many bytes exactly where it says so;
 -- where it speaks of the whole input, all of them, with the first refused line exactly where it names one; at the statuses 0
 -- and 5 the history that the text's script makes; and what was written, of which nothing is out before all was read
-pub record SpeaksOf (left_before left_after taken_before taken_after : Option (List ℕ)) (fault : Option Fault) (history : Option (List HistoryEntry)) : Type 0 where
+pub record SpeaksOf (left_before left_after taken_before taken_after : Option (List ℕ)) (fault : Option Fault) (history : Option
+    (List HistoryEntry)) : Type 0 where
   pub read : List ℕ
   pub given : left_before ≡ prepend_known read left_after
   pub too_long : (fault ≡ Some InputTooLong) ↔ (16777216 < length read)

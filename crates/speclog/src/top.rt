@@ -8,7 +8,8 @@ ghost use Rattle.script_text.specs.Scripts.{SpellsScript};
 ghost use Rattle.net_model.specs.Pasts.{past_of};
 ghost use Rattle.runs.specs.Laws.{IsRun, IsSafe, CutsAreTrue, IsEager};
 ghost use Rattle.spec_base.specs.Faults.{Rose};
-ghost use Rattle.speclog.specs.Answers.{status_of, usage_of, has_history, gives_history, fault_of_read, is_read_fault, is_write_fault, is_unwritten, CountsBlame, SpeaksOf};
+ghost use Rattle.speclog.specs.Answers.{status_of, usage_of, has_history, gives_history, fault_of_read, is_read_fault, is_write_fault, is_unwritten};
+ghost use Rattle.speclog.specs.Answers.{CountsBlame, SpeaksOf};
 ghost use Rattle.speclog.specs.Completeness.{IsPlayedWhole};
 ghost use Rattle.speclog.specs.Generates.{Generates, IsGeneratedWhole};
 ghost use Rattle.speclog.specs.Plays.{BeginsToWrite};
@@ -34,8 +35,8 @@ use std::thread::Threads;
 /// a part of the text may be out, where the source was read to its end. The count of faults of the source rises by one at
 /// status 4 and that of the sink at 5; else both stand.
 ///
-/// At the statuses 0 and 5 of `play` (`safe`) what was read spells a script, the history is the one that its inputs make, and a run; it is safe, its accepted cuts
-/// are true, and it is eager; and what was written is its report, or a beginning of it. That it is the whole report at status 0 is said in `answer`.
+/// At the statuses 0 and 5 of `play` (`safe`) what was read spells a script, the history is the one that its inputs make, and a run; it is safe, its
+/// accepted cuts are true, and it is eager; and what was written is its report, or a beginning of it. That it is the whole report at status 0 is said in `answer`.
 pub fn top<R: AllocGlobal + Threads + Wait + Sync, S: Source, K: Sink, H: Shelf>(
     rt: &R,
     words: &[String],

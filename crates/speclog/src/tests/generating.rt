@@ -5,8 +5,13 @@ use crate::fault::Fault;
 use std::test::Fail;
 
 /// The plan of seed 7 and size 1, by the first four numbers of the seed.
-const PLAN: &str =
-    "belfast-plan 1\nseqs 3\nshards 3\nwindow 16 0:4 1:4 2:4\nclients 0 1 2 0\nconsumers 2 tally\nreaders 0 1 0 1\nsubmitters 0 1 2 3\nfaults 7 5 2 2 0\ndrain 120000 300\nsubmit 0 337\nsubmit 1 806\nsubmit 2 285\nsubmit 3 804\nepisode 400\nrestart s1b\nepisode 400\nremove q0 2\nepisode 400\nrestart k0\nepisode 400\n";
+const PLAN: &str = "\
+belfast-plan 1\nseqs 3\nshards 3\nwindow 16 0:4 1:4 2:4\n\
+clients 0 1 2 0\nconsumers 2 tally\nreaders 0 1 0 1\nsubmitters 0 1 2 3\n\
+faults 7 5 2 2 0\ndrain 120000 300\nsubmit 0 337\nsubmit 1 806\n\
+submit 2 285\nsubmit 3 804\nepisode 400\nrestart s1b\n\
+episode 400\nremove q0 2\nepisode 400\nrestart k0\n\
+episode 400\n";
 
 /// Writes of the plan by 100 bytes.
 const WRITES: u64 = 3;

@@ -9,6 +9,8 @@ loop-place-preserved c =
     let o = c.index-outs-place.result in
     let moved = c.push_some-moved.ensures in
     record {
-      links = links_set outs k o c.push_some-moved.new.self (omega (arith, c.loop-place-test.true, c.loop-place.auto.outs)) moved.link ∙ c.loop-place.invariant.links;
-      queued = λ faults. lanes_kept outs faults k o c.push_some-moved.new.self (omega (arith, c.loop-place-test.true, c.loop-place.auto.outs)) moved.queued ∙ c.loop-place.invariant.queued faults;
+      links = links_set outs k o c.push_some-moved.new.self (omega (arith, c.loop-place-test.true, c.loop-place.auto.outs)) moved.link
+          ∙ c.loop-place.invariant.links;
+      queued = λ faults. lanes_kept outs faults k o c.push_some-moved.new.self (omega (arith, c.loop-place-test.true, c.loop-place.auto.outs)) moved.queued
+          ∙ c.loop-place.invariant.queued faults;
     }

@@ -23,8 +23,10 @@ returns-in-Some-clause-ok c =
     let faults = c.args.faults.now in
     let k = c.args.place in
     map_ok c.send.result
-    (λ (is : _). lanes_set (passed (Some c.in-Some.plan) c.args.frame) outs faults k o c.send.new.out h c.send.new.self c.if-place-outs.false c.if-place-faults.false
-    (passed_by_plan c.in-Some.plan c.args.frame (get_or outs k o) c.send.new.out (get_or faults k h) c.send.new.self is c.send.ensures.words c.send.ensures.held)
+    (λ (is : _). lanes_set (passed (Some c.in-Some.plan) c.args.frame) outs faults k o c.send.new.out h c.send.new.self c.if-place-outs.false
+    c.if-place-faults.false
+    (passed_by_plan c.in-Some.plan c.args.frame (get_or outs k o) c.send.new.out
+    (get_or faults k h) c.send.new.self is c.send.ensures.words c.send.ensures.held)
     ∙ ap (λ plan. at_place k (passed plan c.args.frame) (lanes outs faults)) (sym c.in-Some.is))
     c.send.ensures.ok
 

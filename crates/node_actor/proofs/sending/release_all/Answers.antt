@@ -5,7 +5,8 @@ use Rattle.node_actor.proofs.sending.release_all.Goals as goal
 
 pub returns-in_err-release-clause-links : goal.returns-in_err-release-clause-links
 returns-in_err-release-clause-links c =
-    links_set c.loop-place.outs c.loop-place.place c.index-outs-place.result c.release.new.out (omega arith) c.in_err-release.ensures.link ∙ c.loop-place.invariant.links
+    links_set c.loop-place.outs c.loop-place.place c.index-outs-place.result c.release.new.out (omega arith) c.in_err-release.ensures.link
+    ∙ c.loop-place.invariant.links
 
 pub loop-place-preserved : goal.loop-place-preserved
 loop-place-preserved c =
@@ -19,7 +20,8 @@ loop-place-preserved c =
     let links = c.in_ok-release.ensures.link in
     record {
       links = links_set outs k o c.release.new.out (omega arith) links ∙ c.loop-place.invariant.links;
-      sent = lanes_set released outs faults k o c.release.new.out h c.release.new.self (omega arith) (omega arith) (lane_after (get_or outs k o) c.release.new.out (get_or faults k h) c.release.new.self ok none)
+      sent = lanes_set released outs faults k o c.release.new.out h c.release.new.self (omega arith) (omega arith) (lane_after
+          (get_or outs k o) c.release.new.out (get_or faults k h) c.release.new.self ok none)
           ∙ ap (at_place k released) c.loop-place.invariant.sent ∙ release_more_at k (lanes c.args.outs.now c.args.faults.now);
     }
 

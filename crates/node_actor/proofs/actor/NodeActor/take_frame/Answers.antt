@@ -25,10 +25,12 @@ returns-in-Some-clause-moved g c =
     let write = c.deref_mut.ensures in
     let len : length c.pull_first.new.ins ≡ vec_len self.ins = omega (arith, c.pull_first.auto.ins, write.len) in
     let pulled = subst (λ ins. IsPulled ins c.pull_first.new.ins c.in-Some.from c.in-Some.frame) write.value c.in-Some.ensures.some in
-    frame_moved g.N.NodeModel g.D.Disk c.receive_from.result self _ c.receive_from.new.self c.in-Some.from c.in-Some.frame calm (c.requires.going calm) refl refl
+    frame_moved g.N.NodeModel g.D.Disk c.receive_from.result self _ c.receive_from.new.self c.in-Some.from c.in-Some.frame calm
+    (c.requires.going calm) refl refl
     (subst (λ ins. IsPulled self.ins.items ins c.in-Some.from c.in-Some.frame) (sym (with_items_is self.ins c.pull_first.new.ins len)) pulled)
     c.receive_from.ensures
 
 pub returns-in-Some-clause-steps : goal.returns-in-Some-clause-steps
 returns-in-Some-clause-steps g c =
-    frame_steps g.N.NodeModel g.D.Disk c.receive_from.result c.in-Some.from c.in-Some.frame c.args.self.now _ c.receive_from.new.self refl c.receive_from.ensures
+    frame_steps g.N.NodeModel g.D.Disk c.receive_from.result c.in-Some.from c.in-Some.frame c.args.self.now _ c.receive_from.new.self refl
+    c.receive_from.ensures

@@ -10,5 +10,6 @@ returns-clause-ok g c =
     let reads : AreRead g.N.NodeModel g.D.Disk items core.store loaded.store =
     λ chunks kept. at_ok c.read_vault.result items _ c.in_ok-items.was (c.read_vault.ensures.ok chunks kept) in
     map_ok c.restart_by.result
-    (λ (by : _). restarted g.N.NodeModel g.D.Disk core loaded c.restart_by.new.self items c.args.outs.now c.restart_by.new.outs c.read_vault.ensures.same reads by)
+    (λ (by : _). restarted g.N.NodeModel g.D.Disk core loaded c.restart_by.new.self items c.args.outs.now c.restart_by.new.outs c.read_vault.ensures.same
+    reads by)
     c.restart_by.ensures.ok

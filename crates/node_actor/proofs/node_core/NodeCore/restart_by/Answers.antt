@@ -16,7 +16,8 @@ returns-clause-ok g c =
     let ready = c.requires.ready in
     map_ok c.finish.result
     (λ (done : _). λ store kept.
-    took_one g.N.NodeModel g.D.Disk events.Restart 0 c.in_ok-stamp.stamp (with_store before store) c.finish.new.self c.in_ok-restarted.restarted c.step_into.new.out
+    took_one g.N.NodeModel g.D.Disk events.Restart 0 c.in_ok-stamp.stamp
+    (with_store before store) c.finish.new.self c.in_ok-restarted.restarted c.step_into.new.out
     c.args.outs.now c.finish.new.outs (record { valid = ready.valid; here = ready.here; own = ready.own; unspent = ready.unspent })
     (record { valid = tt; taken_there = tt; addressed = tt }) c.in_ok-stamp.ensures.above
     c.in_ok-step_into.ensures.gives c.in_ok-step_into.ensures.valid.sends made.ready

@@ -12,10 +12,12 @@ returns-clause-ok g c =
     let gives = c.in_ok-step_into.ensures in
     let table = table_at g.N.NodeModel before.cfg before.name in
     map_ok c.finish.result
-    (λ (done : _). took_one g.N.NodeModel g.D.Disk c.args.event c.args.came_with c.in_ok-stamp.stamp before c.finish.new.self c.step_into.new.self c.step_into.new.out
+    (λ (done : _). took_one g.N.NodeModel g.D.Disk c.args.event c.args.came_with c.in_ok-stamp.stamp before c.finish.new.self c.step_into.new.self
+    c.step_into.new.out
     c.args.outs.now c.finish.new.outs c.requires.ready c.requires.takes c.in_ok-stamp.ensures.above gives.gives gives.valid.sends gives.ready
     c.finish.ensures.safely.links done.cfg done.name done.node done.plan done.journal done.sends
-    (λ at. gives.leaves ∙ sym (leaves_after table c.args.event (progress g.N.NodeModel g.D.Disk before.cfg before.name (past_at before) before.node) c.requires.in_place))
+    (λ at. gives.leaves ∙ sym (leaves_after table c.args.event (progress g.N.NodeModel g.D.Disk before.cfg before.name
+    (past_at before) before.node) c.requires.in_place))
     (λ at. done.stored (chunks_of table before.name (past_at before)) at.stored))
     c.finish.ensures.ok
 
