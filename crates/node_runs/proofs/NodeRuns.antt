@@ -1,9 +1,8 @@
 -- Nodes of any kind go by the tables of their kinds.
-use Rattle.std.proofs.Common.{◌≡◌, Bool, true, false, List, [], ◌∷◌, ◌++◌, refl, sym, ap, ◌∙◌}
-use Rattle.std.specs.List.{AllByRecursion}
+use Rattle.std.proofs.Common.{◌≡◌, Bool, true, false, List, [], ◌∷◌, ◌++◌, refl, ap, ◌∙◌}
 use Rattle.msg_wire.specs.Nodes.{same_node}
-use Rattle.net_model.specs.Pasts.{Past, Throughout}
-use Rattle.net_model.specs.Tables.{StepTable, Progress, progress_of, state_of, state_after, one_step, step_if}
+use Rattle.net_model.specs.Pasts.{Past}
+use Rattle.net_model.specs.Tables.{StepTable, Progress, progress_of, state_of, state_after, step_if}
 use Rattle.net_model.specs.Journals.{OwnSteps}
 use Rattle.net_model.specs.Merges.{past_in}
 use Rattle.net_model.specs.Sources.{InEach}

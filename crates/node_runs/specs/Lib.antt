@@ -1,1 +1,2 @@
 pub mod NodeRuns
+pub mod SeatedRuns

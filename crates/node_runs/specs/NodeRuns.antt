@@ -1,5 +1,5 @@
 -- Nodes of any kind by one table, and journals of their steps: when the merge of such journals is a run.
-use Rattle.std.specs.Prelude.{◌≡◌, List}
+use Rattle.std.specs.Prelude.{List}
 use Rattle.std.specs.List.{AllByRecursion}
 use Rattle.msg_wire.specs.Valid.{IsNodeOf, IsValidEvent}
 use Rattle.msg_wire.specs.Steps.{IsEventAt}
