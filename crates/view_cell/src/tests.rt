@@ -2,7 +2,7 @@ ghost use Rattle.std.specs.Prelude.{◌≡◌, IfSome};
 ghost use Rattle.std.specs.List.{All};
 ghost use Rattle.view_cell.specs.Ends.{watching_at};
 
-use crate::{Look, Publisher, ReaderPass, ReaderPasses, view};
+use crate::{Look, Publisher, ReaderPass, ReaderPasses, Told, view};
 use quota_table::OutOfMemory;
 use record_codec::Shown;
 use std::sync::Wait;
@@ -100,6 +100,51 @@ fn what_is_learned_is_seen(rt: HostRuntime) -> Result<(), Fail> {
         (Some(9), false),
     ];
     assert!(rt; seen == wanted);
+    Ok(())
+}
+
+/// The look that a note tells: its numbers, and the last byte that it shows.
+fn told_by(note: &Told) -> (u64, u64, u64, u64, Option<u8>) {
+    let look = note.newest();
+    (
+        look.ops,
+        look.epoch,
+        look.applied,
+        look.confirmed,
+        look.shown.as_slice().last().copied(),
+    )
+}
+
+/// What notes tell: before any publish, after one, and after another, where the note before stays as it is.
+fn notes_of<R: Wait + Drop>(
+    mut publisher: Publisher<R>,
+) -> Result<[(u64, u64, u64, u64, Option<u8>); 4], OutOfMemory>
+    requires opening { publisher.newest.ops ≡ 0 }
+{
+    let opening = publisher.tell()?;
+    publisher.publish(look_at(5))?;
+    let first = publisher.tell()?;
+    publisher.publish(look_at(2009))?;
+    let second = publisher.tell()?;
+    Ok([
+        told_by(&opening),
+        told_by(&first),
+        told_by(&second),
+        told_by(&first),
+    ])
+}
+
+#[test]
+fn a_note_tells_the_newest(rt: HostRuntime) -> Result<(), Fail> {
+    let (publisher, _) = view(&rt, rt.alloc(), 1, look_at(0))?;
+    let told = notes_of(publisher)?;
+    let wanted = [
+        (0, 0, 0, 0, Some(0)),
+        (5, 0, 2, 1, Some(5)),
+        (2009, 2, 1004, 669, Some(217)), // 2009 is 7 * 256 + 217
+        (5, 0, 2, 1, Some(5)),
+    ];
+    assert!(rt; told == wanted);
     Ok(())
 }
 
