@@ -3,7 +3,7 @@ use Rattle.std.proofs.Common.{◌≡◌, ◌≢◌, ◌⊎◌, ℕ, zero, suc, �
 use Rattle.std.specs.List.{concat}
 use Rattle.std.specs.Int.{div_ceil}
 use Rattle.std.proofs.Math.Nat.{le-max_left, le-max_right}
-use Rattle.std.proofs.lemmas.Grind.{div_ceil_times}
+use Rattle.std.proofs.lemmas.Grind.{div_ceil_times, get_or_default_zero}
 use Rattle.std.proofs.lemmas.Bool.Decides.{eqb_tells}
 use Rattle.std.proofs.lemmas.List.{take-append-le, take_all, length-replicate, get_or_past}
 use Rattle.std.proofs.lemmas.List.Folds.{sum_by-replicate}
@@ -297,18 +297,29 @@ size-taken blocks next counts head free first pool whole is some at =
     subst P is (omega (arith, head-below next counts head free (length blocks) whole some, whole.counted, long, at))
 
 -- what is known of a reference that belongs to the pool
-pub record Owned (counts : List ℕ) (total first len : ℕ) : Type 0 where
+pub record Owned (counts : List ℕ) (first len : ℕ) : Type 0 where
   pub count : get_or counts first 0 ≡ blocks_for len
   pub some : 1 ≤ get_or counts first 0
-  pub at : first < total
+  pub inside : first < length counts
 
 pub owned : (blocks : List (List ℕ)) (next counts : List ℕ) (head free first : ℕ) (pool : PoolState) (item : Ref)
     → IsWhole next counts head free (length blocks) → record { free = free; chains = chains_from blocks next 0 counts } ≡ pool → Belongs pool item → first ≡ item.first
-    → Owned counts (length blocks) first item.len
+    → Owned counts first item.len
 owned blocks next counts head free first pool item whole is belongs at =
     let count : get_or counts first 0 ≡ blocks_for item.len = ap (λ n. get_or counts n 0) at ∙ count-of blocks next counts free pool item is belongs in
     let some : 1 ≤ get_or counts first 0 = omega (arith, count, some-blocks item.len) in
-    record { count = count; some = some; at = first-below next counts head free (length blocks) first whole some }
+    record { count = count; some = some; inside = omega (arith, first-below next counts head free (length blocks) first whole some, whole.counted) }
+
+-- and of the count that was read at its first block
+pub record OwnedBy (counts : List ℕ) (first len k : ℕ) : Type 0 where
+  pub own : Owned counts first len
+  pub is : k ≡ get_or counts first 0
+  pub has : get_or counts first 0 ≡ suc (k - 1)
+
+pub owned_by : (counts : List ℕ) (first len k : ℕ) → Owned counts first len → k ≡ get_or counts first k → OwnedBy counts first len k
+owned_by counts first len k own read =
+    let is : k ≡ get_or counts first 0 = read ∙ get_or_default_zero counts first k own.inside in
+    record { own = own; is = is; has = omega (arith, is, own.some) }
 
 -- the pool that a give leaves, as callers see it
 pub pool-given : (blocks : List (List ℕ)) (next counts : List ℕ) (head free first c : ℕ) (pool : PoolState) (item : Ref)
