@@ -14,7 +14,8 @@ use spec_base::Disk;
 /// An actor as a run begins is at a seat of its own.
 pub fn new_actors_are_seated<N: NodeModel + Drop, D: Disk + Drop>()
     ensures { (count : ℕ) (actor : NodeActor N D)
-        → IsNew ⟦<N as NodeModel>⟧ ⟦<D as Disk>⟧ actor → count ≤ D.faults (disk_in actor.core.store) → IsSeated ⟦<N as NodeModel>⟧ ⟦<D as Disk>⟧ (seat_of count actor) actor }
+        → IsNew ⟦<N as NodeModel>⟧ ⟦<D as Disk>⟧ actor → count ≤ D.faults (disk_in actor.core.store)
+        → IsSeated ⟦<N as NodeModel>⟧ ⟦<D as Disk>⟧ (seat_of count actor) actor }
 {}
 
 /// An actor that moved is at the seat at which it was.

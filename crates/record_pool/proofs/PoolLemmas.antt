@@ -1,5 +1,7 @@
 -- What the calls of a pool leave of its chains.
-use Rattle.std.proofs.Common.{◌≡◌, ◌≢◌, ◌⊎◌, ℕ, zero, suc, ◌+◌, ◌-◌, ◌*◌, ◌^◌, ◌<◌, ◌≤◌, take, drop, mul-zero, eqb, true, false, List, [], ◌∷◌, ◌++◌, length, get_or, set, sum, sum_by, replicate, refl, sym, ap, ◌∙◌, subst, inl, inr, append_assoc, arith, length-set, ext_get_or, get_or-set_same, get_or-set_other}
+use Rattle.std.proofs.Common.{◌≡◌, ◌≢◌, ◌⊎◌, ℕ, zero, suc, ◌+◌, ◌-◌, ◌*◌, ◌^◌, ◌<◌, ◌≤◌, take, drop, mul-zero, eqb, true, false, List, [], ◌∷◌, ◌++◌, length}
+use Rattle.std.proofs.Common.{get_or, set, sum, sum_by, replicate, refl, sym, ap, ◌∙◌, subst, inl, inr, append_assoc, arith, length-set, ext_get_or}
+use Rattle.std.proofs.Common.{get_or-set_same, get_or-set_other}
 use Rattle.std.specs.List.{concat}
 use Rattle.std.specs.Int.{div_ceil}
 use Rattle.std.proofs.Math.Nat.{le-max_left, le-max_right}
@@ -11,8 +13,11 @@ use Rattle.std.proofs.lemmas.List.Sums.{sum_by-set}
 use Rattle.record_pool.specs.Chains.{chain, walk, contents, put_all, numbers_from}
 use Rattle.record_pool.specs.Pools.{PoolState, Ref, laid_out, blocks_for, with_bytes, without, fresh_pool, chain_at, bytes_of, Belongs, Keeps, KeepsOthers}
 use Rattle.record_pool.specs.inside.Kept.{Misses, Apart, Differ, Below, chains_from, chain_from, IsWhole}
-use Rattle.record_pool.proofs.ListLemmas.{Apart-at, Apart-nil, Apart-append, Apart-front, Apart-back, Apart-flip, Differ-append, Differ-front, Differ-back, Differ-apart, Below-append, Below-front, Below-back}
-use Rattle.record_pool.proofs.ChainLemmas.{sum-chains_from, length-chains_from, get_or-chains_from, length-chain, length-contents, length-laid_out, length-put, chain-add, chain-set, walk-set, contents-put_other, contents-put_same, bytes-laid_out, length-numbers_from}
+use Rattle.record_pool.proofs.ListLemmas.{Apart-at, Apart-nil, Apart-append, Apart-front, Apart-back, Apart-flip, Differ-append, Differ-front, Differ-back}
+use Rattle.record_pool.proofs.ListLemmas.{Differ-apart, Below-append, Below-front, Below-back}
+use Rattle.record_pool.proofs.ChainLemmas.{sum-chains_from, length-chains_from, get_or-chains_from, length-chain, length-contents, length-laid_out}
+use Rattle.record_pool.proofs.ChainLemmas.{length-put, chain-add, chain-set, walk-set, contents-put_other, contents-put_same, bytes-laid_out}
+use Rattle.record_pool.proofs.ChainLemmas.{length-numbers_from}
 
 pub all-blocks : (blocks : List (List ℕ)) (next counts : List ℕ) (head free : ℕ) (pool : PoolState) → IsWhole next counts head free (length blocks)
     → record { free = free; chains = chains_from blocks next 0 counts } ≡ pool → pool.free + sum_by length pool.chains ≡ length pool.chains
@@ -62,8 +67,10 @@ whole-set next next' counts head head' free free' i v total whole at links keep 
     }
 
 -- what callers see of a chain
-pub seen_at : (blocks : List (List ℕ)) (next counts : List ℕ) (n : ℕ) → get_or (chains_from blocks next 0 counts) n [] ≡ contents blocks (chain_from next counts n)
-seen_at blocks next counts n = let e : 0 + n ≡ n = omega arith in get_or-chains_from blocks next 0 counts n ∙ ap (λ m. contents blocks (chain next m (get_or counts n 0))) e
+pub seen_at : (blocks : List (List ℕ)) (next counts : List ℕ) (n : ℕ)
+    → get_or (chains_from blocks next 0 counts) n [] ≡ contents blocks (chain_from next counts n)
+seen_at blocks next counts n = let e : 0 + n ≡ n = omega arith in get_or-chains_from blocks next 0 counts n
+    ∙ ap (λ m. contents blocks (chain next m (get_or counts n 0))) e
 
 -- what callers see of the chains then
 chains-set : (blocks blocks' : List (List ℕ)) (next next' counts : List ℕ) (i v : ℕ) (bytes : List (List ℕ)) → i < length counts
@@ -95,7 +102,8 @@ free-split next head count free h = let e : free ≡ count + (free - count) = om
 
 pub taken-below : (next counts : List ℕ) (head free total count : ℕ) → IsWhole next counts head free total → count ≤ free → Below total (chain next head count)
 taken-below next counts head free total count whole h =
-    Below-front total (chain next head count) (chain next (walk next head count) (free - count)) (subst (Below total) (free-split next head count free h) whole.free_below)
+    Below-front total (chain next head count) (chain next (walk next head count) (free - count)) (subst (Below total)
+    (free-split next head count free h) whole.free_below)
 
 pub head-below : (next counts : List ℕ) (head free total : ℕ) → IsWhole next counts head free total → 1 ≤ free → head < total
 head-below next counts head free total whole h = (taken-below next counts head free total 1 whole h).0
@@ -126,7 +134,8 @@ seen-taken blocks next counts head free count bytes whole some room =
     let split : chain next head free ≡ front ++ back = free-split next head count free room in
     let at : head < length counts = omega (arith, head-below next counts head free (length blocks) whole (omega arith), whole.counted) in
     let others : (n : ℕ) → Apart front (chain_from next counts n) =
-    λ n. Apart-flip (chain_from next counts n) front (Apart-front (chain_from next counts n) front back (subst (Apart (chain_from next counts n)) split (whole.free_apart n))) in
+    λ n. Apart-flip (chain_from next counts n) front (Apart-front (chain_from next counts n) front back (subst (Apart (chain_from next counts n)) split
+    (whole.free_apart n))) in
     chains-set blocks (put_all blocks front (laid_out count bytes)) next next counts head count (laid_out count bytes) at
     (λ n _. contents-put_other blocks front (laid_out count bytes) (chain_from next counts n) (others n))
     (contents-put_same blocks front (laid_out count bytes) (Differ-front front back (subst Differ split whole.free_differ))
@@ -151,10 +160,12 @@ module _ (next counts : List ℕ) (head free total first c : ℕ) (whole : IsWho
 
   last-misses_front : Misses (walk next first c) (chain next first c)
   last-misses_front =
-      (Apart-flip (chain next first c) (walk next first c ∷ []) (Differ-apart (chain next first c) (walk next first c ∷ []) (subst Differ here (whole.differ first)))).0
+      (Apart-flip (chain next first c) (walk next first c ∷ []) (Differ-apart (chain next first c) (walk next first c ∷ []) (subst Differ here
+      (whole.differ first)))).0
 
   keeps : (n : ℕ) → n ≢ first → chain (set next (walk next first c) head) n (get_or counts n 0) ≡ chain next n (get_or counts n 0)
-  keeps n other = chain-set next (walk next first c) head n (get_or counts n 0) (last-misses (chain_from next counts n) (whole.apart first n (λ e. other (sym e))))
+  keeps n other = chain-set next (walk next first c) head n (get_or counts n 0) (last-misses (chain_from next counts n) (whole.apart first n (λ e. other
+      (sym e))))
 
   given : chain (set next (walk next first c) head) first (free + suc c) ≡ chain_from next counts first ++ chain next head free
   given =
@@ -164,11 +175,13 @@ module _ (next counts : List ℕ) (head free total first c : ℕ) (whole : IsWho
       let g : chain next' first c ≡ chain next first c = chain-set next (walk next first c) head first c last-misses_front in
       let at : walk next first c < length next = omega (arith, last-below, whole.links) in
       let h : get_or next' (walk next first c) 0 ≡ head = get_or-set_same next (walk next first c) head 0 at in
-      let k : chain next' head free ≡ chain next head free = chain-set next (walk next first c) head head free (last-misses (chain next head free) (whole.free_apart first)) in
+      let k : chain next' head free ≡ chain next head free = chain-set next (walk next first c) head head free (last-misses (chain next head free)
+      (whole.free_apart first)) in
       let goes_on : chain next' (walk next' first c) (suc free) ≡ walk next first c ∷ chain next head free =
       ap (λ m. chain next' m (suc free)) f ∙ ap (λ m. walk next first c ∷ chain next' m free) h ∙ ap (λ ns. walk next first c ∷ ns) k in
       ap (chain next' first) e ∙ chain-add next' first c (suc free) ∙ ap (λ ns. ns ++ chain next' (walk next' first c) (suc free)) g
-      ∙ ap (λ ns. chain next first c ++ ns) goes_on ∙ sym (ap (λ ns. ns ++ chain next head free) here ∙ append_assoc (chain next first c) (walk next first c ∷ []) (chain next head free))
+      ∙ ap (λ ns. chain next first c ++ ns) goes_on ∙ sym (ap (λ ns. ns ++ chain next head free) here
+      ∙ append_assoc (chain next first c) (walk next first c ∷ []) (chain next head free))
 
   pub whole-given : first < length counts → IsWhole (set next (walk next first c) head) (set counts first 0) first (free + suc c) total
   whole-given at =
@@ -181,12 +194,14 @@ module _ (next counts : List ℕ) (head free total first c : ℕ) (whole : IsWho
       (subst Differ (sym given) (Differ-append own frees (whole.differ first) whole.free_differ (whole.free_apart first)))
       tt
       (λ n _. Apart-nil (chain_from next counts n))
-      (λ n other. subst (Apart (chain_from next counts n)) (sym given) (Apart-append (chain_from next counts n) own frees (whole.apart n first other) (whole.free_apart n)))
+      (λ n other. subst (Apart (chain_from next counts n)) (sym given) (Apart-append (chain_from next counts n) own frees (whole.apart n first other)
+      (whole.free_apart n)))
       (omega (arith, has))
 
   pub seen-given : (blocks : List (List ℕ)) → first < length counts
       → chains_from blocks (set next (walk next first c) head) 0 (set counts first 0) ≡ set (chains_from blocks next 0 counts) first []
-  seen-given blocks at = chains-set blocks blocks next (set next (walk next first c) head) counts first 0 [] at (λ n other. ap (contents blocks) (keeps n other)) refl
+  seen-given blocks at = chains-set blocks blocks next (set next (walk next first c) head) counts first 0 [] at (λ n other. ap (contents blocks)
+      (keeps n other)) refl
 
 -- what was taken belongs to the pool, and names its bytes
 pub some-blocks : (len : ℕ) → 1 ≤ blocks_for len
@@ -198,14 +213,16 @@ blocks-hold len =
     let most : div_ceil len 64 ≤ blocks_for len = le-max_left (div_ceil len 64) 1 in
     omega (arith, enough, most)
 
-pub belongs-taken : (old new : PoolState) (item : Ref) (bytes : List ℕ) → item.first < length old.chains → item.len ≡ length bytes → new ≡ with_bytes old item.first bytes
+pub belongs-taken : (old new : PoolState) (item : Ref) (bytes : List ℕ) → item.first < length old.chains → item.len ≡ length bytes
+    → new ≡ with_bytes old item.first bytes
     → Belongs new item
 belongs-taken old new item bytes at len is =
     let need : ℕ = blocks_for (length bytes) in
     let P : PoolState → Type 0 = λ p. Belongs p item in
     subst P (sym is) (ap length (get_or-set_same old.chains item.first (laid_out need bytes) [] at) ∙ length-laid_out need bytes ∙ sym (ap blocks_for len))
 
-pub bytes-taken : (old new : PoolState) (item : Ref) (bytes : List ℕ) → item.first < length old.chains → item.len ≡ length bytes → new ≡ with_bytes old item.first bytes
+pub bytes-taken : (old new : PoolState) (item : Ref) (bytes : List ℕ) → item.first < length old.chains → item.len ≡ length bytes
+    → new ≡ with_bytes old item.first bytes
     → bytes_of new item ≡ bytes
 bytes-taken old new item bytes at len is =
     let need : ℕ = blocks_for (length bytes) in
@@ -214,7 +231,8 @@ bytes-taken old new item bytes at len is =
     ∙ ap (λ n. take n (concat (laid_out need bytes))) len ∙ bytes-laid_out need bytes (blocks-hold (length bytes)))
 
 -- what other references read
-chain-other : (old : PoolState) (first : ℕ) (bytes : List (List ℕ)) (item : Ref) → item.first ≢ first → get_or (set old.chains first bytes) item.first [] ≡ chain_at old item.first
+chain-other : (old : PoolState) (first : ℕ) (bytes : List (List ℕ)) (item : Ref) → item.first ≢ first
+    → get_or (set old.chains first bytes) item.first [] ≡ chain_at old item.first
 chain-other old first bytes item other = get_or-set_other old.chains first item.first bytes [] other
 
 apart-fresh : (old : PoolState) (first : ℕ) (item : Ref) → chain_at old first ≡ [] → Belongs old item → item.first ≢ first
@@ -223,13 +241,15 @@ apart-fresh old first item fresh belongs same =
     let no : ⊥ = omega (arith, none, belongs, some-blocks item.len) in
     no
 
-pub kept-others : (old new : PoolState) (first free : ℕ) (bytes : List (List ℕ)) → new ≡ record { free = free; chains = set old.chains first bytes } → KeepsOthers first old new
+pub kept-others : (old new : PoolState) (first free : ℕ) (bytes : List (List ℕ)) → new ≡ record { free = free; chains = set old.chains first bytes }
+    → KeepsOthers first old new
 kept-others old new first free bytes is item other belongs =
     let P : PoolState → Type 0 = λ p. Belongs p item × (bytes_of p item ≡ bytes_of old item) in
     let same : get_or (set old.chains first bytes) item.first [] ≡ chain_at old item.first = chain-other old first bytes item other in
     subst P (sym is) (ap length same ∙ belongs, ap (λ bs. take item.len (concat bs)) same)
 
-pub kept-taken : (old new : PoolState) (first free : ℕ) (bytes : List (List ℕ)) → chain_at old first ≡ [] → new ≡ record { free = free; chains = set old.chains first bytes } → Keeps old new
+pub kept-taken : (old new : PoolState) (first free : ℕ) (bytes : List (List ℕ)) → chain_at old first ≡ []
+    → new ≡ record { free = free; chains = set old.chains first bytes } → Keeps old new
 kept-taken old new first free bytes fresh is item belongs = kept-others old new first free bytes is item (apart-fresh old first item fresh belongs) belongs
 
 -- how many blocks a reference that belongs to the pool has
@@ -238,7 +258,8 @@ pub count-of : (blocks : List (List ℕ)) (next counts : List ℕ) (free : ℕ) 
 count-of blocks next counts free pool item is belongs =
     let P : PoolState → Type 0 = λ p. Belongs p item in
     let before : length (get_or (chains_from blocks next 0 counts) item.first []) ≡ blocks_for item.len = subst P (sym is) belongs in
-    sym (ap length (seen_at blocks next counts item.first) ∙ length-contents blocks (chain_from next counts item.first) ∙ length-chain next item.first (get_or counts item.first 0)) ∙ before
+    sym (ap length (seen_at blocks next counts item.first) ∙ length-contents blocks (chain_from next counts item.first)
+    ∙ length-chain next item.first (get_or counts item.first 0)) ∙ before
 
 pub belongs-by : (blocks : List (List ℕ)) (next counts : List ℕ) (free : ℕ) (pool : PoolState) (item : Ref)
     → record { free = free; chains = chains_from blocks next 0 counts } ≡ pool → get_or counts item.first 0 ≡ blocks_for item.len → Belongs pool item
@@ -258,7 +279,8 @@ first-below next counts head free total first whole some =
     let e : get_or counts first 0 ≡ suc (get_or counts first 0 - 1) = omega arith in
     (subst (λ k. Below total (chain next first k)) e (whole.below first)).0
 
-pub count-most : (next counts : List ℕ) (head free total first : ℕ) → IsWhole next counts head free total → first < length counts → free + get_or counts first 0 ≤ total
+pub count-most : (next counts : List ℕ) (head free total first : ℕ) → IsWhole next counts head free total → first < length counts
+    → free + get_or counts first 0 ≤ total
 count-most next counts head free total first whole at =
     let changed : sum (set counts first 0) + get_or counts first 0 ≡ sum counts + 0 = sum_by-set (λ x. x) counts first 0 0 at in
     omega (arith, whole.all)
@@ -276,7 +298,8 @@ pool-taken blocks blocks' next counts head free count first bytes pool whole is 
     let P : PoolState → Type 0 = λ p. record { free = free - count; chains = chains_from blocks' next 0 (set counts head count) } ≡ with_bytes p first bytes in
     let made : ℕ → List (List (List ℕ)) → PoolState = λ n cs. record { free = n; chains = cs } in
     let old : List (List (List ℕ)) = chains_from blocks next 0 counts in
-    subst P is (ap (made (free - count)) (ap (λ bs. chains_from bs next 0 (set counts head count)) written ∙ seen-taken blocks next counts head free count bytes whole some room)
+    subst P is (ap (made (free - count)) (ap (λ bs. chains_from bs next 0 (set counts head count)) written
+    ∙ seen-taken blocks next counts head free count bytes whole some room)
     ∙ ap (λ k. made (free - k) (set old head (laid_out k bytes))) need
     ∙ ap (λ n. made (free - blocks_for (length bytes)) (set old n (laid_out (blocks_for (length bytes)) bytes))) (sym at))
 
@@ -286,7 +309,8 @@ pub fresh-taken : (blocks : List (List ℕ)) (next counts : List ℕ) (head free
 fresh-taken blocks next counts head free first pool whole is some at =
     let P : PoolState → Type 0 = λ p. chain_at p first ≡ [] in
     let none : get_or counts head 0 ≡ 0 = none-at-head next head (get_or counts head 0) free some (whole.free_apart head) in
-    subst P is (ap (λ n. get_or (chains_from blocks next 0 counts) n []) at ∙ seen_at blocks next counts head ∙ ap (λ k. contents blocks (chain next head k)) none)
+    subst P is (ap (λ n. get_or (chains_from blocks next 0 counts) n []) at ∙ seen_at blocks next counts head
+    ∙ ap (λ k. contents blocks (chain next head k)) none)
 
 pub size-taken : (blocks : List (List ℕ)) (next counts : List ℕ) (head free first : ℕ) (pool : PoolState)
     → IsWhole next counts head free (length blocks) → record { free = free; chains = chains_from blocks next 0 counts } ≡ pool → 1 ≤ free → first ≡ head
@@ -303,7 +327,8 @@ pub record Owned (counts : List ℕ) (first len : ℕ) : Type 0 where
   pub inside : first < length counts
 
 pub owned : (blocks : List (List ℕ)) (next counts : List ℕ) (head free first : ℕ) (pool : PoolState) (item : Ref)
-    → IsWhole next counts head free (length blocks) → record { free = free; chains = chains_from blocks next 0 counts } ≡ pool → Belongs pool item → first ≡ item.first
+    → IsWhole next counts head free (length blocks) → record { free = free; chains = chains_from blocks next 0 counts } ≡ pool → Belongs pool item
+    → first ≡ item.first
     → Owned counts first item.len
 owned blocks next counts head free first pool item whole is belongs at =
     let count : get_or counts first 0 ≡ blocks_for item.len = ap (λ n. get_or counts n 0) at ∙ count-of blocks next counts free pool item is belongs in
@@ -329,7 +354,11 @@ pub pool-given : (blocks : List (List ℕ)) (next counts : List ℕ) (head free 
 pool-given blocks next counts head free first c pool item whole is at has count inside =
     let made : ℕ → List (List (List ℕ)) → PoolState = λ n cs. record { free = n; chains = cs } in
     let old : List (List (List ℕ)) = chains_from blocks next 0 counts in
-    let P : PoolState → Type 0 = λ p. record { free = free + suc c; chains = chains_from blocks (set next (walk next first c) head) 0 (set counts first 0) } ≡ without p item in
+    let P : PoolState → Type 0 = λ p. record {
+      free = free + suc c;
+      chains = chains_from blocks (set next (walk next first c) head) 0
+          (set counts first 0);
+    } ≡ without p item in
     subst P is (ap (made (free + suc c)) (seen-given next counts head free (length blocks) first c whole has blocks inside)
     ∙ ap (λ k. made (free + k) (set old first [])) (sym has ∙ count)
     ∙ ap (λ n. made (free + blocks_for item.len) (set old n [])) at)

@@ -36,7 +36,8 @@ use std::thread::Threads;
 /// status 4 and that of the sink at 5; else both stand.
 ///
 /// At the statuses 0 and 5 of `play` (`safe`) what was read spells a script, the history is the one that its inputs make, and a run; it is safe, its
-/// accepted cuts are true, and it is eager; and what was written is its report, or a beginning of it. That it is the whole report at status 0 is said in `answer`.
+/// accepted cuts are true, and it is eager; and what was written is its report, or a beginning of it. That it is the whole report at status 0
+/// is said in `answer`.
 pub fn top<R: AllocGlobal + Threads + Wait + Sync, S: Source, K: Sink, H: Shelf>(
     rt: &R,
     words: &[String],

@@ -10,7 +10,8 @@ use Rattle.record_pool.proofs.pool.RecordPool.read.Goals as goal
 pub index-count-requires : goal.index-count-requires
 index-count-requires c =
     let i = c.self.inside in
-    let own = owned i.blocks.items i.next.items i.counts.items i.head i.free c.first-first.result c.args.self.now c.args.item.now c.self.invariant c.self.view_is c.requires.belongs
+    let own = owned i.blocks.items i.next.items i.counts.items i.head i.free c.first-first.result c.args.self.now c.args.item.now c.self.invariant
+    c.self.view_is c.requires.belongs
     c.first-first.ensures in
     omega (arith, own.inside, i.counts.ok.0)
 
@@ -20,10 +21,12 @@ copy_out-requires-clause-below c =
     let next = i.next.items in
     let first = c.first-first.result in
     let k = c.index-count.result.now in
-    let own = owned i.blocks.items next i.counts.items i.head i.free first c.args.self.now c.args.item.now c.self.invariant c.self.view_is c.requires.belongs c.first-first.ensures in
+    let own = owned i.blocks.items next i.counts.items i.head i.free first c.args.self.now c.args.item.now c.self.invariant c.self.view_is c.requires.belongs
+    c.first-first.ensures in
     let by = owned_by i.counts.items first c.args.item.now.len k own c.index-count.ensures in
     let inner : Below (length next) (chain next first k) =
-    subst (λ t. Below t (chain next first k)) (sym c.self.invariant.links) (subst (λ n. Below (length i.blocks.items) (chain next first n)) (sym by.is) (c.self.invariant.below first)) in
+    subst (λ t. Below t (chain next first k)) (sym c.self.invariant.links) (subst (λ n. Below (length i.blocks.items) (chain next first n)) (sym by.is)
+    (c.self.invariant.below first)) in
     subst (λ ns. Below (length ns) (chain ns first k)) (sym c.deref-2.ensures.value) inner
 
 pub copy_out-requires-clause-room : goal.copy_out-requires-clause-room
@@ -31,7 +34,8 @@ copy_out-requires-clause-room c =
     let i = c.self.inside in
     let first = c.first-first.result in
     let item = c.args.item.now in
-    let own = owned i.blocks.items i.next.items i.counts.items i.head i.free first c.args.self.now item c.self.invariant c.self.view_is c.requires.belongs c.first-first.ensures in
+    let own = owned i.blocks.items i.next.items i.counts.items i.head i.free first c.args.self.now item c.self.invariant c.self.view_is c.requires.belongs
+    c.first-first.ensures in
     let by = owned_by i.counts.items first item.len c.index-count.result.now own c.index-count.ensures in
     let front : length (take c.len.result c.args.into.now) ≡ item.len =
     length-take-le c.len.result c.args.into.now (omega (arith, c.len.ensures, c.requires.room)) ∙ c.len.ensures in
@@ -44,7 +48,8 @@ returns c =
     let first = c.first-first.result in
     let k = c.index-count.result.now in
     let item = c.args.item.now in
-    let own = owned i.blocks.items next i.counts.items i.head i.free first c.args.self.now item c.self.invariant c.self.view_is c.requires.belongs c.first-first.ensures in
+    let own = owned i.blocks.items next i.counts.items i.head i.free first c.args.self.now item c.self.invariant c.self.view_is c.requires.belongs
+    c.first-first.ensures in
     let by = owned_by i.counts.items first item.len k own c.index-count.ensures in
     let front : length (take c.len.result c.args.into.now) ≡ item.len =
     length-take-le c.len.result c.args.into.now (omega (arith, c.len.ensures, c.requires.room)) ∙ c.len.ensures in
