@@ -1,0 +1,3 @@
+-- What only the contracts of this crate's private functions cite.
+pub mod Pairs
+pub mod Runs
