@@ -1,7 +1,7 @@
 -- A link of two nodes is settled: its ends are written, and no step is taken; what was settled before stays so.
-use Rattle.std.proofs.Common.{◌≡◌, ◌≢◌, ◌⊎◌, inl, inr, ℕ, zero, suc, ◌<◌, ◌+◌, ◌-◌, List, [], ◌∷◌, ◌++◌, length, get_or, set, map, take, drop, Option, Some, None, refl, sym, ap, ◌∙◌, subst, arith}
-use Rattle.std.proofs.lemmas.List.{length-set, length-map, get_or-map, get_or-take, get_or-drop, get_or-set_same, get_or-set_other, length-take-le, set-set, set_comm, set-append_left, set-append_right, take-append-drop, map-set}
-use Rattle.std.proofs.lemmas.Option.{none-some, same_Some, slice_get-get_or, slice_get-map, slice_get_within}
+use Rattle.std.proofs.Common.{◌≡◌, ◌≢◌, ◌⊎◌, inl, inr, ℕ, zero, suc, ◌<◌, ◌+◌, List, [], ◌∷◌, ◌++◌, length, get_or, set, map, take, drop, Some, refl, sym, ap, ◌∙◌, subst, arith}
+use Rattle.std.proofs.lemmas.List.{length-set, length-map, get_or-map, get_or-take, get_or-drop, get_or-set_same, get_or-set_other, length-take-le, set-set, set-append_left, set-append_right, take-append-drop, map-set}
+use Rattle.std.proofs.lemmas.Option.{none-some, same_Some, slice_get-get_or, slice_get-map}
 use Rattle.std.specs.Option.{option_map}
 use Rattle.std.specs.Prelude.{slice_get}
 use Rattle.link_rows.specs.Rows.{AreLinked, at_of_row, entry_at}
@@ -16,9 +16,9 @@ use Rattle.node_actor.specs.Lanes.{links_of}
 use Rattle.node_actor.specs.Settling.{AreEnds, AreSettledEnds, with_ins_of, with_outs_of}
 use Rattle.node_seats.specs.Seats.{AreGoing, AreSettled, WaitsElsewhere, ins_of, outs_of, received_of}
 use Rattle.node_seats.proofs.Zips.{all_at, all_get, all_set, get_set_other, get_set_same, map_set}
-use Rattle.cluster_drain.specs.Drains.{CanDrain, Drains, steps_in}
+use Rattle.cluster_drain.specs.Drains.{Drains, steps_in}
 use Rattle.cluster_drain.specs.inside.Pairs.{AreLinkEnds, IsLinkSettled, IsSettledPair, StaySettled}
-use Rattle.cluster_drain.proofs.Writing.{IsGoing, Stays, drains_set, drains_then, in_names, out_names, steps_set, waits_keeps}
+use Rattle.cluster_drain.proofs.Writing.{IsGoing, drains_set, drains_then, in_names, out_names, steps_set, waits_keeps}
 
 -- ---- lists
 
@@ -83,7 +83,8 @@ module _ {N D : Type 0} where
     receiver = receiver;
     after_is = is;
     sends = λ d. sends ∙ ap (with_outs_of sender) (sym (at_a d));
-    receives = λ d. receives ∙ ap (with_ins_of receiver) (sym (at_b d)) ∙ ap (with_ins_of receiver) (sym (get_or-set_other xs from to sender d (λ e. two (sym e))));
+    receives = λ d. receives ∙ ap (with_ins_of receiver) (sym (at_b d)) ∙ ap (with_ins_of receiver)
+        (sym (get_or-set_other xs from to sender d (λ e. two (sym e))));
     settled = λ d e.
         subst (λ (x : NodeActor N D). AreSettledEnds x.outs.items sender.outs.items to (get_or xs to e).ins.items receiver.ins.items from) (sym (at_a d))
         (subst (λ (x : NodeActor N D). AreSettledEnds a.outs.items sender.outs.items to x.ins.items receiver.ins.items from) (sym (at_b e)) settled);
@@ -102,7 +103,8 @@ module _ {N D : Type 0} where
         sends = λ d. ap (with_outs_of actor) (sym (at_a d));
         receives = λ d. is ∙ ap (with_ins_of actor) (sym (get_or-set_same xs place sender d within));
         settled = λ d e.
-            subst (λ (x : NodeActor N D). AreSettledEnds x.outs.items sender.outs.items place (get_or xs place e).ins.items actor.ins.items place) (sym (at_a d))
+            subst (λ (x : NodeActor N D). AreSettledEnds x.outs.items sender.outs.items place (get_or xs place e).ins.items actor.ins.items place)
+            (sym (at_a d))
             (subst (λ (x : NodeActor N D). AreSettledEnds a.outs.items sender.outs.items place x.ins.items actor.ins.items place) (sym (at_a e)) settled);
       }
 
@@ -172,7 +174,8 @@ module _ {N D : Type 0} where
         ins_same (suc from) (suc to) (x ∷ xs) y same = ins_same from to xs y same
 
   -- no step was taken, and none is stopped by it
-  wait_steps : (xs : List (NodeActor N D)) (k : ℕ) (d y : NodeActor N D) → k < length xs → WaitsElsewhere (get_or xs k d) y → steps_in (set xs k y) ≡ steps_in xs
+  wait_steps : (xs : List (NodeActor N D)) (k : ℕ) (d y : NodeActor N D) → k < length xs → WaitsElsewhere (get_or xs k d) y → steps_in
+      (set xs k y) ≡ steps_in xs
   wait_steps xs k d y within waits =
       let same : length (steps_of y.core) ≡ length (steps_of (get_or xs k d).core) = ap (λ (c : NodeCore N D). length (steps_of c)) waits.core in
       let is = steps_set xs k d y 0 within (omega (arith, same)) in omega (arith, is)
@@ -183,7 +186,8 @@ module _ {N D : Type 0} where
       let ys = set xs from p.sender in
       ap steps_in w.zs_are ∙ wait_steps ys to p.sender p.receiver w.high w.into ∙ wait_steps xs from p.sender p.sender low w.out
 
-  wait_going : (xs : List (NodeActor N D)) (k : ℕ) (d y : NodeActor N D) → k < length xs → WaitsElsewhere (get_or xs k d) y → AreGoing xs → AreGoing (set xs k y)
+  wait_going : (xs : List (NodeActor N D)) (k : ℕ) (d y : NodeActor N D) → k < length xs → WaitsElsewhere (get_or xs k d) y → AreGoing xs → AreGoing
+      (set xs k y)
   wait_going xs k d y within waits all = all_set IsGoing xs k y all (waits.stopped ∙ all_get IsGoing xs k d all within)
 
   pub pair_going : (from to : ℕ) (xs zs : List (NodeActor N D)) → IsSettledPair from to xs zs → from < length xs → to < length xs → AreGoing xs → AreGoing zs
@@ -319,7 +323,8 @@ module _ {N D : Type 0} where
   row_width f n xs k d within each =
       each k (f (get_or xs k d)) (slice_get-map f xs k ∙ ap (option_map f) (slice_get-get_or xs k d within))
 
-  link_at : (f : NodeActor N D → List LinkName) (xs : List (NodeActor N D)) (i j : ℕ) (d : NodeActor N D) (e : LinkName) → i < length xs → j < length (f (get_or xs i d))
+  link_at : (f : NodeActor N D → List LinkName) (xs : List (NodeActor N D)) (i j : ℕ) (d : NodeActor N D) (e : LinkName) → i < length xs → j < length
+      (f (get_or xs i d))
       → entry_at (map f xs) i j ≡ Some (get_or (f (get_or xs i d)) j e)
   link_at f xs i j d e within low =
       ap (λ row. at_of_row row j) (slice_get-map f xs i ∙ ap (option_map f) (slice_get-get_or xs i d within)) ∙ slice_get-get_or (f (get_or xs i d)) j e low

@@ -1,5 +1,5 @@
 -- A drain part by part: a part after a part is a part, a step counts, and what takes no step counts nothing.
-use Rattle.std.proofs.Common.{◌≡◌, ◌⊎◌, inl, inr, Bool, true, false, ℕ, zero, suc, ◌<◌, ◌≤◌, ◌+◌, List, [], ◌∷◌, ◌++◌, length, length-append, get_or, set, Option, Some, None, IsSome, Result, Ok, Err, refl, sym, ap, ◌∙◌, subst, arith}
+use Rattle.std.proofs.Common.{◌≡◌, ◌⊎◌, inl, inr, true, false, ℕ, zero, suc, ◌<◌, ◌+◌, List, [], ◌∷◌, length, length-append, get_or, set, IsSome, Result, Ok, Err, refl, sym, ap, ◌∙◌, subst, arith}
 use Rattle.spec_base.specs.declared.disk.Disk.{Ghosts as DiskRules}
 use Rattle.net_model.specs.declared.journal.Stamped.{Stamped}
 use Rattle.net_model.specs.declared.model.NodeModel.{Ghosts as NodeRules}
@@ -10,10 +10,10 @@ use Rattle.node_actor.specs.declared.taken.Taken.TheVariants as takes
 use Rattle.node_actor.specs.Cores.{steps_of}
 use Rattle.node_actor.specs.Turns.{AreStepsOf, IsStepOf, TookSteps}
 use Rattle.node_seats.specs.Seats.{AreGoing}
-use Rattle.node_seats.proofs.Zips.{all_get, all_set}
+use Rattle.node_seats.proofs.Zips.{all_set}
 use Rattle.cluster_drain.specs.declared.drained.Early.{Early}
 use Rattle.cluster_drain.specs.declared.drained.Early.TheVariants as early
-use Rattle.cluster_drain.specs.Drains.{CanDrain, Drains, EndsSo, steps_in}
+use Rattle.cluster_drain.specs.Drains.{CanDrain, EndsSo}
 use Rattle.cluster_drain.specs.inside.Runs.{CanRun, GoesOn, IsCounted, Runs, early_of}
 use Rattle.cluster_drain.specs.inside.Pairs.{IsSettledPair}
 use Rattle.cluster_drain.proofs.Pairs.{pair_drains, pair_going, pair_steps}
@@ -66,7 +66,8 @@ pub none_more : (taken : Taken) → (taken ≡ takes.NoInput) ⊎ (taken ≡ tak
 none_more taken (inl is) = ap count_of is
 none_more taken (inr is) = ap count_of is
 
-pub frame_more : {N D : Type 0} (taken : Taken) (before after : NodeActor N D) → TookSteps (AreStepsOf taken) before after → TookMore (count_of taken) before after
+pub frame_more : {N D : Type 0} (taken : Taken) (before after : NodeActor N D) → TookSteps (AreStepsOf taken) before after → TookMore
+    (count_of taken) before after
 frame_more taken before after took = took_more (AreStepsOf taken) (count_of taken) before after (counted taken) took
 
 pub tick_more : {N D : Type 0} (before after : NodeActor N D) → TookSteps (IsStepOf events.Tick) before after → TookMore 1 before after
@@ -88,7 +89,8 @@ module _ {N D : Type 0} (rules : NodeRules N) (disk : DiskRules D) where
         ends = second.ends;
       }
 
-  pub can_still : (left mid : ℕ) (xs ys : List (NodeActor N D)) → CanDrain rules xs → Runs {T = Unit {0}} rules disk (Ok tt) left mid xs ys → CanRun rules mid ys
+  pub can_still : (left mid : ℕ) (xs ys : List (NodeActor N D)) → CanDrain rules xs → Runs {T = Unit {0}} rules disk (Ok tt) left mid xs ys → CanRun
+      rules mid ys
   can_still left mid xs ys can so_far = record { can = so_far.drains.can can; going = so_far.ends.1; some = so_far.ends.0 }
 
   -- ---- one actor

@@ -1,24 +1,20 @@
 -- One actor of a list is written: what stays of it stays of the list.
-use Rattle.std.proofs.Common.{◌≡◌, ℕ, zero, suc, ◌<◌, ◌+◌, List, [], ◌∷◌, ◌++◌, length, get_or, set, map, Option, Some, None, IsSome, refl, sym, ap, ◌∙◌, subst, arith}
+use Rattle.std.proofs.Common.{◌≡◌, ℕ, zero, suc, ◌<◌, ◌+◌, List, [], ◌∷◌, length, get_or, set, map, None, refl, sym, ◌∙◌, subst, arith}
 use Rattle.std.proofs.lemmas.List.{length-set}
-use Rattle.std.specs.List.{AllByRecursion}
 use Rattle.link_rows.specs.Rows.{AreLinked}
 use Rattle.node_links.specs.Links.{LinkName}
 use Rattle.spec_base.specs.declared.disk.Disk.{Ghosts as DiskRules}
-use Rattle.net_model.specs.declared.journal.Stamped.{Stamped}
 use Rattle.net_model.specs.declared.model.NodeModel.{Ghosts as NodeRules}
 use Rattle.node_actor.specs.declared.actor.NodeActor.{NodeActor}
-use Rattle.node_actor.specs.declared.node_core.NodeCore.{NodeCore}
 use Rattle.node_actor.specs.Actors.{CanGoOn, Moved}
 use Rattle.node_actor.specs.Cores.{steps_of, IsReady}
 use Rattle.node_actor.specs.Ins.{links_to}
 use Rattle.node_actor.specs.Lanes.{links_of}
-use Rattle.node_actor.specs.Turns.{TookSteps}
 use Rattle.node_actor.proofs.Moving.{still_going}
-use Rattle.node_seats.specs.Seats.{Seat, AreGoing, AreSeated, IsSeated, StaysSeated, WaitsElsewhere}
+use Rattle.node_seats.specs.Seats.{AreGoing, IsSeated, StaysSeated, WaitsElsewhere}
 use Rattle.node_seats.proofs.Staying.{moved_stays, waits_stays}
 use Rattle.node_seats.proofs.Zips.{all_get, all_set, map_set, zip_set}
-use Rattle.cluster_drain.specs.Drains.{CanDrain, Drains, TookInputs, steps_in}
+use Rattle.cluster_drain.specs.Drains.{Drains, steps_in}
 
 module _ {N D : Type 0} where
   abbrev pub out_names : NodeActor N D → List LinkName

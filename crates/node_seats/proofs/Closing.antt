@@ -27,8 +27,8 @@ use Rattle.node_seats.proofs.Taking.{among, link_of_frame, node_steps, queued_of
 use Rattle.node_seats.proofs.Zips.{all_at, all_from, all_map, zip_at, zip_length}
 
 -- the steps of one journal are among those of all
-step_of_all : (journals : List OwnSteps) (k : ℕ) (j : OwnSteps) (x : Stamped) → slice_get journals k ≡ Some j → Contains j.steps x
-    → Contains (all_steps journals) x
+step_of_all : (journals : List OwnSteps) (k : ℕ) (j : OwnSteps) (x : Stamped) → slice_get journals k ≡ Some j → Contains j.steps x → Contains
+    (all_steps journals) x
 step_of_all [] k j x at there = absurd (none-some j at)
 step_of_all (i ∷ journals) zero j x at there =
     let same : i ≡ j = cc in
@@ -72,8 +72,8 @@ module _ {N D : Type 0} (rules : NodeRules N) (disk : DiskRules D) where
         let found = zip_at (IsSeated rules disk) seats actors k a end.seated at in
         let row : slice_get (map (λ (s : Seat). s.ins) seats) k ≡ Some found.0.ins =
         slice_get-map (λ (s : Seat). s.ins) seats k ∙ ap (option_map (λ (s : Seat). s.ins)) found.1 in
-        let width = all_at (λ (l : List LinkName). length l ≡ length seats) (map (λ
-        (s : Seat). s.ins) seats) k found.0.ins end.seats_are.linked.ins_are.width_is row in
+        let width = all_at (λ (l : List LinkName). length l ≡ length seats) (map (λ (s : Seat). s.ins) seats) k found.0.ins
+        end.seats_are.linked.ins_are.width_is row in
         sym (length-map a.ins.items (λ (i : Receiving). i.link)) ∙ ap length found.2.ins ∙ width
 
     outs_length : (k : ℕ) (a : NodeActor N D) → slice_get actors k ≡ Some a → length a.outs.items ≡ length seats
@@ -81,8 +81,8 @@ module _ {N D : Type 0} (rules : NodeRules N) (disk : DiskRules D) where
         let found = zip_at (IsSeated rules disk) seats actors k a end.seated at in
         let row : slice_get (map (λ (s : Seat). s.outs) seats) k ≡ Some found.0.outs =
         slice_get-map (λ (s : Seat). s.outs) seats k ∙ ap (option_map (λ (s : Seat). s.outs)) found.1 in
-        let width = all_at (λ (l : List LinkName). length l ≡ length seats) (map (λ
-        (s : Seat). s.outs) seats) k found.0.outs end.seats_are.linked.outs_are.width_is row in
+        let width = all_at (λ (l : List LinkName). length l ≡ length seats) (map (λ (s : Seat). s.outs) seats) k found.0.outs
+        end.seats_are.linked.outs_are.width_is row in
         sym (length-map a.outs.items (λ (o : Sending). o.link)) ∙ ap length found.2.outs ∙ width
 
     -- a frame that the node at one place received of the one at another
@@ -92,11 +92,11 @@ module _ {N D : Type 0} (rules : NodeRules N) (disk : DiskRules D) where
     frame_sent to from a b into out f at_a at_b at_into at_out there =
         let order = in_order from b at_b in
         let out_at : entry_at (outs_of actors) from to ≡ Some out =
-        ap (λ row. at_of_row row to) (slice_get-map (λ (c : NodeActor N D). c.outs.items) actors from
-        ∙ ap (option_map (λ (c : NodeActor N D). c.outs.items)) at_b) ∙ at_out in
+        ap (λ row. at_of_row row to) (slice_get-map (λ (c : NodeActor N D). c.outs.items) actors from ∙ ap
+        (option_map (λ (c : NodeActor N D). c.outs.items)) at_b) ∙ at_out in
         let into_at : entry_at (ins_of actors) to from ≡ Some into =
-        ap (λ row. at_of_row row from) (slice_get-map (λ (c : NodeActor N D). c.ins.items) actors to
-        ∙ ap (option_map (λ (c : NodeActor N D). c.ins.items)) at_a) ∙ at_into in
+        ap (λ row. at_of_row row from) (slice_get-map (λ (c : NodeActor N D). c.ins.items) actors to ∙ ap
+        (option_map (λ (c : NodeActor N D). c.ins.items)) at_a) ∙ at_into in
         let pushed : Contains out.pushed f =
         subst (λ l. Contains l f) (end.settled from to out into out_at into_at) (Contains-append_left into.received into.waiting f there) in
         let of = among (IsOfStep (steps_of b.core)) (queued out) f

@@ -1,6 +1,5 @@
 -- An actor stays at its seat: as it moves, as its faults end, and as its links are settled; and is at one as a run begins.
-use Rattle.std.proofs.Common.{◌≡◌, ◌≤◌, ℕ, zero, suc, ◌<◌, Bool, true, false, cond, List, [], ◌∷◌, ◌++◌, length, get_or, map, Option, None, Some, refl, sym}
-use Rattle.std.proofs.Common.{ap, ◌∙◌, subst, arith}
+use Rattle.std.proofs.Common.{◌≡◌, ◌≤◌, ℕ, zero, suc, ◌<◌, Bool, true, false, cond, List, [], ◌∷◌, ◌++◌, length, get_or, map, Option, None, Some, refl, sym, ap, ◌∙◌, subst, arith}
 use Rattle.std.specs.List.{AllByRecursion, Contains}
 use Rattle.std.proofs.lemmas.List.{length-map, get_or-map, get_or_default}
 use Rattle.gate_vault.specs.Put.{FailedTwice}
@@ -71,8 +70,8 @@ lanes_by (x ∷ outs) (y ∷ outs') [] same = refl
 lanes_by (x ∷ outs) (y ∷ outs') (h ∷ faults) same =
     let first : queued y ≡ queued x = cc in
     let later : map queued outs' ≡ map queued outs = cc in
-    ap (λ q. record { queued = q; faults = h } ∷ lanes outs' faults) first
-    ∙ ap (λ l. record { queued = queued x; faults = h } ∷ l) (lanes_by outs outs' faults later)
+    ap (λ q. record { queued = q; faults = h } ∷ lanes outs' faults) first ∙ ap (λ l. record { queued = queued x; faults = h } ∷ l)
+    (lanes_by outs outs' faults later)
 
 came_by : (cfg : Config) (ins ins' : List Receiving) (m : Message) (stamp : ℕ) → map received_of ins' ≡ map received_of ins → CameBy cfg ins m stamp
     → CameBy cfg ins' m stamp
@@ -94,8 +93,8 @@ came_by cfg ins ins' m stamp same came =
       spelled = came.spelled;
     }
 
-taken_by : (cfg : Config) (ins ins' : List Receiving) (steps : List Stamped) → map received_of ins' ≡ map received_of ins → AreTaken cfg ins steps
-    → AreTaken cfg ins' steps
+taken_by : (cfg : Config) (ins ins' : List Receiving) (steps : List Stamped) → map received_of ins' ≡ map received_of ins → AreTaken cfg ins
+    steps → AreTaken cfg ins' steps
 taken_by cfg ins ins' [] same all = tt
 taken_by cfg ins ins' (x ∷ steps) same all = (λ m is. came_by cfg ins ins' m x.stamp same (all.0 m is), taken_by cfg ins ins' steps same all.1)
 

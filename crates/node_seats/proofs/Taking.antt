@@ -82,8 +82,8 @@ module _ {N D : Type 0} (rules : NodeRules N) (disk : DiskRules D) where
   pub took_received : (actor : NodeActor N D) → IsInOrder rules disk actor → TookReceived (node_steps actor)
   took_received actor at = λ x m there takes.
       let steps = steps_of actor.core in
-      let came = among (λ (y : Stamped). (n : Message) → y.entry.event ≡ events.Deliver n
-      → CameBy actor.core.cfg actor.ins.items n y.stamp) steps x at.taken there m takes in
+      let came = among (λ (y : Stamped). (n : Message) → y.entry.event ≡ events.Deliver n → CameBy actor.core.cfg actor.ins.items n y.stamp) steps x
+      at.taken there m takes in
       let valid = among (λ (y : Stamped). IsValidEntry y.entry) steps x
       (valid_steps steps (valid_past rules actor.core.cfg (past_at actor.core) at.in_step.own)) there in
       record {

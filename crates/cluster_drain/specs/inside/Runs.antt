@@ -34,7 +34,8 @@ module _ {N D : Type 0} where
   GoesOn (Err early.Memory) actor = ⊥
 
   -- what a part of a drain leaves
-  pub record Runs {T : Type 0} (rules : NodeRules N) (disk : DiskRules D) (result : Result T Early) (left left' : ℕ) (before after : List (NodeActor N D)) : Type 0 where
+  pub record Runs {T : Type 0} (rules : NodeRules N) (disk : DiskRules D) (result : Result T Early) (left left' : ℕ)
+      (before after : List (NodeActor N D)) : Type 0 where
     pub drains : Drains rules disk before after
     pub took : AreGoing after → steps_in after + left' ≡ steps_in before + left
     pub fewer : left' ≤ left

@@ -1,4 +1,4 @@
-use Rattle.std.proofs.Common.{◌≡◌, ◌<◌, arith, refl, sym, ap, ◌∙◌, get_or, length, None}
+use Rattle.std.proofs.Common.{◌≡◌, ◌<◌, arith, refl, sym, ap, ◌∙◌, length, None}
 use Rattle.std.proofs.lemmas.List.{get_or_default}
 use Rattle.cluster_drain.proofs.Running.{all_going, one_more_going}
 use Rattle.cluster_drain.proofs.draining.are_going.Goals as goal
@@ -7,7 +7,8 @@ pub loop-place-init : goal.loop-place-init
 loop-place-init g c = (λ k d low. absurd (omega (arith, low)), refl)
 
 pub returns-clause-going : goal.returns-clause-going
-returns-clause-going g c = λ is. all_going c.args.actors.now (λ k d low. c.loop-place.invariant.0 k d (omega (arith, low, c.loop-place-test.false, c.loop-place.invariant.1)))
+returns-clause-going g c = λ is. all_going c.args.actors.now (λ k d low. c.loop-place.invariant.0 k d
+    (omega (arith, low, c.loop-place-test.false, c.loop-place.invariant.1)))
 
 pub loop-place-preserved : goal.loop-place-preserved
 loop-place-preserved g c =

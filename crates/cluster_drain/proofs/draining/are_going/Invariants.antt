@@ -1,4 +1,4 @@
-use Rattle.std.proofs.Common.{◌≡◌, ◌<◌, ℕ, length, get_or, None}
+use Rattle.std.proofs.Common.{◌≡◌, length}
 use Rattle.cluster_drain.proofs.Running.{AreGoingBelow}
 use Rattle.cluster_drain.proofs.draining.are_going.Given as goal
 

@@ -6,7 +6,8 @@ pub loop-round-init : goal.loop-round-init
 loop-round-init g c = c.in_ok-take_frames.ensures
 
 pub take_round-requires : goal.take_round-requires
-take_round-requires g c = can_still g.N.NodeModel g.D.Disk c.args.left.now c.loop-round.left c.args.actors.now c.loop-round.actors c.requires.can c.loop-round.invariant
+take_round-requires g c = can_still g.N.NodeModel g.D.Disk c.args.left.now c.loop-round.left c.args.actors.now c.loop-round.actors c.requires.can
+    c.loop-round.invariant
 
 pub loop-round-preserved : goal.loop-round-preserved
 loop-round-preserved g c =

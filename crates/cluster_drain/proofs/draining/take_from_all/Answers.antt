@@ -25,5 +25,6 @@ loop-from-preserved g c = (
 pub returns-in_err-take_link : goal.returns-in_err-take_link
 returns-in_err-take_link g c =
     let p = err_from_is_err_and c.from_residual.result c.from_residual.ensures.1 in
-    rw (p.1, p.2) (runs_then g.N.NodeModel g.D.Disk _ c.args.left.now c.loop-from.left c.take_link.new.left c.args.actors.now c.loop-from.actors c.take_link.new.actors
+    rw (p.1, p.2) (runs_then g.N.NodeModel g.D.Disk _ c.args.left.now c.loop-from.left c.take_link.new.left c.args.actors.now c.loop-from.actors
+    c.take_link.new.actors
     c.loop-from.invariant.0 c.in_err-take_link.ensures)

@@ -1,4 +1,4 @@
-use Rattle.std.proofs.Common.{◌<◌, length, arith}
+use Rattle.std.proofs.Common.{arith}
 use Rattle.std.proofs.lemmas.Result.{err_from_is_err_and}
 use Rattle.cluster_drain.proofs.Pairs.{ends_of, pair_drains}
 use Rattle.cluster_drain.proofs.Running.{can_still, pair_runs, refused_runs, runs_then}

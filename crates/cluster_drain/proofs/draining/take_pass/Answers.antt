@@ -24,5 +24,6 @@ loop-to-preserved g c = (
 pub returns-in_err-take_from_all : goal.returns-in_err-take_from_all
 returns-in_err-take_from_all g c =
     let p = err_from_is_err_and c.from_residual.result c.from_residual.ensures.1 in
-    rw (p.1, p.2) (runs_then g.N.NodeModel g.D.Disk _ c.args.left.now c.loop-to.left c.take_from_all.new.left c.args.actors.now c.loop-to.actors c.take_from_all.new.actors
+    rw (p.1, p.2) (runs_then g.N.NodeModel g.D.Disk _ c.args.left.now c.loop-to.left c.take_from_all.new.left c.args.actors.now c.loop-to.actors
+    c.take_from_all.new.actors
     c.loop-to.invariant.0 c.in_err-take_from_all.ensures)

@@ -1,4 +1,3 @@
-use Rattle.std.proofs.lemmas.Result.{err_from_is_err_and}
 use Rattle.cluster_drain.proofs.Running.{can_still, runs_then}
 use Rattle.cluster_drain.proofs.draining.take_round.Goals as goal
 

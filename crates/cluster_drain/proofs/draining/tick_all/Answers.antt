@@ -24,5 +24,6 @@ loop-place-preserved g c = (
 pub returns-in_err-tick_one : goal.returns-in_err-tick_one
 returns-in_err-tick_one g c =
     let p = err_from_is_err_and c.from_residual.result c.from_residual.ensures.1 in
-    rw (p.1, p.2) (runs_then g.N.NodeModel g.D.Disk _ c.args.left.now c.loop-place.left c.tick_one.new.left c.args.actors.now c.loop-place.actors c.tick_one.new.actors
+    rw (p.1, p.2) (runs_then g.N.NodeModel g.D.Disk _ c.args.left.now c.loop-place.left c.tick_one.new.left c.args.actors.now c.loop-place.actors
+    c.tick_one.new.actors
     c.loop-place.invariant.0 c.in_err-tick_one.ensures)

@@ -12,11 +12,15 @@ tick-requires g c = record {
 
 pub returns-then-not-tick : goal.returns-then-not-tick
 returns-then-not-tick g c =
-    stopped_runs g.N.NodeModel g.D.Disk c.args.left.now c.args.actors.now c.args.place c.index-actors-place.result c.tick.new.self c.requires.place c.requires.can
-    (moved_keeps g.N.NodeModel g.D.Disk (get_or c.args.actors.now c.args.place c.index-actors-place.result) c.tick.new.self c.tick.ensures.moved) (c.tick.ensures.stopped c.if-not-tick.true)
+    stopped_runs g.N.NodeModel g.D.Disk c.args.left.now c.args.actors.now c.args.place c.index-actors-place.result c.tick.new.self c.requires.place
+    c.requires.can
+    (moved_keeps g.N.NodeModel g.D.Disk (get_or c.args.actors.now c.args.place c.index-actors-place.result) c.tick.new.self c.tick.ensures.moved)
+    (c.tick.ensures.stopped c.if-not-tick.true)
 
 pub returns : goal.returns
 returns g c =
     step_runs g.N.NodeModel g.D.Disk c.count_input.result c.args.left.now c.count_input.new.left c.args.actors.now c.args.place c.index-actors-place.result
-    c.tick.new.self c.requires.place c.requires.can (moved_keeps g.N.NodeModel g.D.Disk (get_or c.args.actors.now c.args.place c.index-actors-place.result) c.tick.new.self c.tick.ensures.moved)
-    (tick_more (get_or c.args.actors.now c.args.place c.index-actors-place.result) c.tick.new.self c.tick.ensures.steps) (c.tick.ensures.taken c.if-not-tick.false) c.count_input.ensures
+    c.tick.new.self c.requires.place c.requires.can (moved_keeps g.N.NodeModel g.D.Disk
+    (get_or c.args.actors.now c.args.place c.index-actors-place.result) c.tick.new.self c.tick.ensures.moved)
+    (tick_more (get_or c.args.actors.now c.args.place c.index-actors-place.result) c.tick.new.self c.tick.ensures.steps)
+    (c.tick.ensures.taken c.if-not-tick.false) c.count_input.ensures

@@ -1,5 +1,5 @@
-use Rattle.std.proofs.Common.{◌≡◌, ℕ, ◌<◌, ◌+◌, ◌-◌, get_or, length, take, drop, set, arith, refl, sym, ap, ◌∙◌, subst}
-use Rattle.std.proofs.lemmas.List.{get_or-take, get_or-drop, get_or_default, set_comm}
+use Rattle.std.proofs.Common.{◌<◌, get_or, set, arith, sym, ◌∙◌, subst}
+use Rattle.std.proofs.lemmas.List.{get_or_default, set_comm}
 use Rattle.node_actor.specs.Settling.{AreEnds}
 use Rattle.cluster_drain.specs.inside.Pairs.{IsSettledPair}
 use Rattle.cluster_drain.proofs.Pairs.{low_is, high_is, joined, own_is, pair_is}
@@ -33,7 +33,8 @@ returns-then-from-to g c =
     let d = c.index-actors-from.result in
     let is = c.settle_own.ensures in
     subst (λ n. IsSettledPair c.args.from n xs (set xs c.args.from c.settle_own.new.self)) c.if-from-to.true
-    (own_is c.args.from xs (get_or xs c.args.from d) c.settle_own.new.self c.requires.from (λ e. get_or_default xs c.args.from e d c.requires.from) is.links is.settled)
+    (own_is c.args.from xs (get_or xs c.args.from d) c.settle_own.new.self c.requires.from (λ e. get_or_default xs c.args.from e d c.requires.from)
+    is.links is.settled)
 
 pub returns-then-from-to-2 : goal.returns-then-from-to-2
 returns-then-from-to-2 g c =

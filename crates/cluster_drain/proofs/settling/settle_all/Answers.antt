@@ -1,4 +1,4 @@
-use Rattle.std.proofs.Common.{◌≡◌, ◌<◌, ℕ, length, arith, refl}
+use Rattle.std.proofs.Common.{length, arith, refl}
 use Rattle.cluster_drain.proofs.Pairs.{all_settled, rows_below}
 use Rattle.cluster_drain.proofs.Writing.{drains_itself, drains_then}
 use Rattle.cluster_drain.proofs.settling.settle_all.Goals as goal

@@ -1,4 +1,4 @@
-use Rattle.std.proofs.Common.{◌≡◌, ◌<◌, ℕ, length, arith, refl}
+use Rattle.std.proofs.Common.{◌<◌, length, arith, refl}
 use Rattle.cluster_drain.proofs.Pairs.{ends_of, pair_drains, pair_settled, pair_stays, settled_below}
 use Rattle.cluster_drain.proofs.Writing.{drains_itself, drains_then}
 use Rattle.cluster_drain.proofs.settling.settle_from.Goals as goal
@@ -31,7 +31,8 @@ loop-to-preserved g c =
     let pair = c.settle_link-settled.ensures in
     let stays = pair_stays c.args.from c.loop-to.to ys zs pair ends from to in
     record {
-      drains = drains_then g.N.NodeModel g.D.Disk c.args.actors.now ys zs at.drains (pair_drains g.N.NodeModel g.D.Disk c.args.from c.loop-to.to ys zs pair from to);
+      drains = drains_then g.N.NodeModel g.D.Disk c.args.actors.now ys zs at.drains
+          (pair_drains g.N.NodeModel g.D.Disk c.args.from c.loop-to.to ys zs pair from to);
       done = settled_below c.args.from c.loop-to.to ys zs stays at.done (pair_settled c.args.from c.loop-to.to ys zs pair ends from to);
       kept = λ i j was. stays i j (at.kept i j was);
       end = at.end;
