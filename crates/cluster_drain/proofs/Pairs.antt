@@ -1,6 +1,8 @@
 -- A link of two nodes is settled: its ends are written, and no step is taken; what was settled before stays so.
-use Rattle.std.proofs.Common.{◌≡◌, ◌≢◌, ◌⊎◌, inl, inr, ℕ, zero, suc, ◌<◌, ◌+◌, List, [], ◌∷◌, ◌++◌, length, get_or, set, map, take, drop, Some, refl, sym, ap, ◌∙◌, subst, arith}
-use Rattle.std.proofs.lemmas.List.{length-set, length-map, get_or-map, get_or-take, get_or-drop, get_or-set_same, get_or-set_other, length-take-le, set-set, set-append_left, set-append_right, take-append-drop, map-set}
+use Rattle.std.proofs.Common.{◌≡◌, ◌≢◌, ◌⊎◌, inl, inr, ℕ, zero, suc, ◌<◌, ◌+◌, List, [], ◌∷◌, ◌++◌, length, get_or, set, map, take, drop, Some, refl, sym, ap}
+use Rattle.std.proofs.Common.{◌∙◌, subst, arith}
+use Rattle.std.proofs.lemmas.List.{length-set, length-map, get_or-map, get_or-take, get_or-drop, get_or-set_same, get_or-set_other, length-take-le, set-set}
+use Rattle.std.proofs.lemmas.List.{set-append_left, set-append_right, take-append-drop, map-set}
 use Rattle.std.proofs.lemmas.Option.{none-some, same_Some, slice_get-get_or, slice_get-map}
 use Rattle.std.specs.Option.{option_map}
 use Rattle.std.specs.Prelude.{slice_get}

@@ -1,5 +1,6 @@
 -- A drain part by part: a part after a part is a part, a step counts, and what takes no step counts nothing.
-use Rattle.std.proofs.Common.{◌≡◌, ◌⊎◌, inl, inr, true, false, ℕ, zero, suc, ◌<◌, ◌+◌, List, [], ◌∷◌, length, length-append, get_or, set, IsSome, Result, Ok, Err, refl, sym, ap, ◌∙◌, subst, arith}
+use Rattle.std.proofs.Common.{◌≡◌, ◌⊎◌, inl, inr, true, false, ℕ, zero, suc, ◌<◌, ◌+◌, List, [], ◌∷◌, length, length-append, get_or, set, IsSome, Result, Ok}
+use Rattle.std.proofs.Common.{Err, refl, sym, ap, ◌∙◌, subst, arith}
 use Rattle.spec_base.specs.declared.disk.Disk.{Ghosts as DiskRules}
 use Rattle.net_model.specs.declared.journal.Stamped.{Stamped}
 use Rattle.net_model.specs.declared.model.NodeModel.{Ghosts as NodeRules}
