@@ -9,7 +9,7 @@ use Rattle.undo_points.proofs.PointLemmas.{Gave-push}
 use Rattle.output_gate.specs.declared.kept.KeptOut.{KeptOut}
 use Rattle.output_gate.specs.Gates.{Gate, out_position, holding, gate_below, gate_from}
 use Rattle.node_rules.specs.Names.{Record}
-use Rattle.consumer_node.specs.inside.Kept.{StandFrom, GaveOutputs, IsKeptFrom, IsKept, HasRoom}
+use Rattle.consumer_node.specs.inside.Kept.{StandFrom, GaveOutputs, IsAppliedAheadFrom, IsAppliedAhead, HasRoom}
 use Rattle.consumer_node.proofs.Standing.{stand-push, stand-past, stand-take, below-take, below-next, from_on-next, stand-next}
 
 pub state-made : {A : Type 0} (lanes more : List LaneState) (confirmed counted : ℕ) (base same : A) (pending recs : List Record) → lanes ≡ more
@@ -68,10 +68,10 @@ module _ {A U : Type 0} (next : A → Record → A) (output : A → Record → L
   -- ---- what is kept
 
   abbrev From : A → Points U → Gate → A → List Record → ℕ → Type 0
-  From base undos gate app pending confirmed = IsKeptFrom next output restored base undos gate app pending confirmed
+  From base undos gate app pending confirmed = IsAppliedAheadFrom next output restored base undos gate app pending confirmed
 
   abbrev pub Kept : Points U → Gate → A → List Record → ℕ → Type 0
-  Kept undos gate app pending confirmed = IsKept next output restored undos gate app pending confirmed
+  Kept undos gate app pending confirmed = IsAppliedAhead next output restored undos gate app pending confirmed
 
   abbrev pub base_of : Points U → A → A
   base_of undos app = taken_back restored undos.held app

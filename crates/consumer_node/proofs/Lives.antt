@@ -15,7 +15,7 @@ use Rattle.consumer_node.proofs.Bare.{bare_of, closed_bare}
 use Rattle.consumer_node.proofs.Owned.{own_apply, own_confirm}
 pub use Rattle.consumer_node.proofs.Items.{fresh_sound}
 use Rattle.consumer_node.proofs.Reached.{IsReached, OutputsFitFrom, reached_none, reached_later, fit_later}
-use Rattle.consumer_node.proofs.Turns.{IsKept}
+use Rattle.consumer_node.proofs.Turns.{IsConsumerTurn}
 pub use Rattle.consumer_node.proofs.Turns.{kept_step}
 use Rattle.consumer_node.proofs.Owners.{agreement_by}
 use Rattle.consumer_node.proofs.Applied.{IsConsumer-few, IsConsumer-valid}
@@ -30,7 +30,7 @@ module _ {A : Type 0} (app : Meaning A) where
     pub reached : IsReached app (app.fresh cfg.app) life.node.own.base
     pub stored : fold (fit app) (fresh_node app cfg me) life.stored ≡ bare_of life.node
 
-  lived : (cfg : Config) (me : NodeId) (life : Life (ConsumerState A)) (t : Turn (ConsumerState A)) → IsLife cfg me life → IsKept app life.node t
+  lived : (cfg : Config) (me : NodeId) (life : Life (ConsumerState A)) (t : Turn (ConsumerState A)) → IsLife cfg me life → IsConsumerTurn app life.node t
       → IsLife cfg me (lived_on life t)
   lived cfg me life t is kept = record {
     sound = kept.sound;

@@ -102,14 +102,14 @@ module _ {A : Type 0} (app : Meaning A) where
     -- ---- from a consumer
 
     -- the node is a consumer, and what the turn gives so far
-    pub record IsKept (t : Turn (ConsumerState A)) : Type 0 where
+    pub record IsConsumerTurn (t : Turn (ConsumerState A)) : Type 0 where
       pub sound : IsConsumer t.state
       pub given : IsGiven n (bare_of t.state) t.stable t.sends
 
     kept_started : IsConsumer n → Keeps between_rules (started n)
     kept_started is = record { base = is.base; own = is.own; given = record { leads = refl; reached = reached_none app n.own.base; stable = λ outputs. tt; sends = tt } }
 
-    kept : (t : Turn (ConsumerState A)) → Keeps between_rules t → IsKept t
+    kept : (t : Turn (ConsumerState A)) → Keeps between_rules t → IsConsumerTurn t
     kept t is = record { sound = record { base = is.base; own = is.own }; given = is.given }
 
     -- ---- a valid event
@@ -174,8 +174,8 @@ module _ {A : Type 0} (app : Meaning A) where
       }
 
     -- after what an event does by itself, and after the whole step
-    pub kept_handle : (event : Event) → IsConsumer n → IsValidEvent event → IsKept (handle event (started n))
+    pub kept_handle : (event : Event) → IsConsumer n → IsValidEvent event → IsConsumerTurn (handle event (started n))
     kept_handle event is valid = kept _ (staged_handle app Keeps n event (kept_sites event valid) (kept_started is))
 
-    pub kept_step : (event : Event) → IsConsumer n → IsValidEvent event → IsKept (consumer_step app n event)
+    pub kept_step : (event : Event) → IsConsumer n → IsValidEvent event → IsConsumerTurn (consumer_step app n event)
     kept_step event is valid = kept _ (staged_walk app Keeps n event (kept_sites event valid) (kept_started is))

@@ -55,11 +55,11 @@ impl<A: App> Model for ConsumerOwn<A> {
     ghost Value = { ConsumerState A };
 
     ghost use Rattle.undo_points.specs.Points.{taken_back};
-    ghost use Rattle.consumer_node.specs.inside.Kept.{IsKept, AreLanes};
+    ghost use Rattle.consumer_node.specs.inside.Kept.{IsAppliedAhead, AreLanes};
 
     ghost view = { λ o. record { lanes = o.buffer; confirmed = o.confirmed; base = taken_back A.restored o.undos.held o.app; pending = o.pending.items } };
 
-    ghost invariant = { λ o. IsKept A.next_state A.output_of A.restored o.undos o.gate o.app o.pending.items o.confirmed × AreLanes o.confirmed o.buffer };
+    ghost invariant = { λ o. IsAppliedAhead A.next_state A.output_of A.restored o.undos o.gate o.app o.pending.items o.confirmed × AreLanes o.confirmed o.buffer };
 }
 
 impl<A: App> ConsumerOwn<A> {

@@ -1,4 +1,4 @@
-pub mod WorkedRows
+pub mod Worked
 pub mod Counts
 pub mod Kept
 pub mod Sound

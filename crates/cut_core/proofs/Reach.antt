@@ -19,8 +19,8 @@ pub record IsSettled (a : Agreement) : Type 0 where
   pub final : HasFinalEnds a
   pub few : a.slots ≤ 1000000
 
-pub IsKept-view : (i : Inside) (a : Agreement) → agreement_of i ≡ a → IsAgreed i → IsSettled a
-IsKept-view i a view is = subst IsSettled view (record { sound = is.sound; final = is.final; few = is.few })
+pub IsSettled_view : (i : Inside) (a : Agreement) → agreement_of i ≡ a → IsAgreed i → IsSettled a
+IsSettled_view i a view is = subst IsSettled view (record { sound = is.sound; final = is.final; few = is.few })
 
 -- windows and covered positions end at 2^48 at most
 pub end-reach : (a : Agreement) → IsSound a → a.slots ≤ 1000000 → end_of a.current ≤ 2 ^ 48

@@ -12,7 +12,7 @@ use Rattle.fix_ante.specs.declared.spots.Spot.{Spot}
 use Rattle.fix_ante.specs.declared.spots.Owner.{Owner}
 use Rattle.fix_ante.specs.Windows.{Window, IsWindow, rows_of, width_of, end_of}
 use Rattle.fix_ante.specs.Layout.{layout_of, index_of, place_of, owner_of}
-use Rattle.fix_ante.specs.Positions.{index_in, index_among, position_of, owner_among}
+use Rattle.fix_ante.specs.Positions.{Lay, lay_of, lay_past, index_in, index_among, position_of, owner_among}
 use Rattle.fix_ante.proofs.Entries.{index_of_only, index_of_none}
 use Rattle.fix_ante.proofs.LayoutLemmas.{length-layout_of, slice_get-rounds_from}
 
@@ -37,19 +37,19 @@ owner_among-has_shard (s ∷ ss) round at o e =
     ]
 
 -- the row's local of a round and a place below its quota has that index
-pub index_in-at : (rounds width before : ℕ) (s : Spot) (round at : ℕ) → round < rounds → at < s.quota
-    → index_in rounds width before s (s.start + round * s.quota + at) ≡ Some (round * width + before + at)
-index_in-at rounds width before s round at h k =
+pub index_in-at : (lay : Lay) (s : Spot) (round at : ℕ) → round < lay.rounds → at < s.quota
+    → index_in lay s (s.start + round * s.quota + at) ≡ Some (round * lay.width + lay.before + at)
+index_in-at lay s round at h k =
     let local = s.start + round * s.quota + at in
     let ahead : local - s.start ≡ round * s.quota + at = omega arith in
-    let within : round * s.quota + at < s.quota * rounds = mul-add-lt round s.quota at rounds h k in
+    let within : round * s.quota + at < s.quota * lay.rounds = mul-add-lt round s.quota at lay.rounds h k in
     let from : nat_le s.start local ≡ true = le-leb s.start local (omega arith) in
-    let below : nat_lt (local - s.start) (rounds * s.quota) ≡ true = lt-ltb (local - s.start) (rounds * s.quota) (omega arith) in
+    let below : nat_lt (local - s.start) (lay.rounds * s.quota) ≡ true = lt-ltb (local - s.start) (lay.rounds * s.quota) (omega arith) in
     let quotient : (local - s.start) / s.quota ≡ round = rw ahead (div-mul-add round s.quota at k) in
     let remainder : (local - s.start) % s.quota ≡ at = rw ahead (mod-mul-add round s.quota at k) in
     cond-true _ _ _ (and_from _ _ from below)
-    ∙ ap (λ n. Some (n * width + before + (local - s.start) % s.quota)) quotient
-    ∙ ap (λ n. Some (round * width + before + n)) remainder
+    ∙ ap (λ n. Some (n * lay.width + lay.before + (local - s.start) % s.quota)) quotient
+    ∙ ap (λ n. Some (round * lay.width + lay.before + n)) remainder
 
 -- a product above a number has a factor above 0
 positive : (m k n : ℕ) → n < m * k → 0 < k
@@ -57,30 +57,30 @@ positive m zero n h = absurd (omega arith)
 positive m (suc k) n h = omega arith
 
 -- an index that a row gives to a local tells the local's round and place
-pub index_in-is : (rounds width before : ℕ) (s : Spot) (local i : ℕ) → index_in rounds width before s local ≡ Some i
-    → (round : ℕ) × (at : ℕ) × (round < rounds) × (at < s.quota) × (i ≡ round * width + before + at) × (local ≡ s.start + round * s.quota + at)
-index_in-is rounds width before s local i e =
-    let test = nat_le s.start local && nat_lt (local - s.start) (rounds * s.quota) in
+pub index_in-is : (lay : Lay) (s : Spot) (local i : ℕ) → index_in lay s local ≡ Some i
+    → (round : ℕ) × (at : ℕ) × (round < lay.rounds) × (at < s.quota) × (i ≡ round * lay.width + lay.before + at) × (local ≡ s.start + round * s.quota + at)
+index_in-is lay s local i e =
+    let test = nat_le s.start local && nat_lt (local - s.start) (lay.rounds * s.quota) in
     elim (cases_Bool test) [
       | inl fits ↦
-          let parts = and_parts (nat_le s.start local) (nat_lt (local - s.start) (rounds * s.quota)) fits in
+          let parts = and_parts (nat_le s.start local) (nat_lt (local - s.start) (lay.rounds * s.quota)) fits in
           let from = leb-true s.start local parts.0 in
-          let below = ltb-true (local - s.start) (rounds * s.quota) parts.1 in
-          let some = positive rounds s.quota (local - s.start) below in
-          let is : Some (((local - s.start) / s.quota) * width + before + (local - s.start) % s.quota) ≡ Some i = sym (cond-true _ _ _ fits) ∙ e in
+          let below = ltb-true (local - s.start) (lay.rounds * s.quota) parts.1 in
+          let some = positive lay.rounds s.quota (local - s.start) below in
+          let is : Some (((local - s.start) / s.quota) * lay.width + lay.before + (local - s.start) % s.quota) ≡ Some i = sym (cond-true _ _ _ fits) ∙ e in
           let split = div-add-mod' (local - s.start) s.quota in
-          ((local - s.start) / s.quota, (local - s.start) % s.quota, div_below (local - s.start) s.quota rounds some below, mod_below (local - s.start) s.quota some, cc, omega arith)
+          ((local - s.start) / s.quota, (local - s.start) % s.quota, div_below (local - s.start) s.quota lay.rounds some below, mod_below (local - s.start) s.quota some, cc, omega arith)
       | inr outside ↦ let is : None ≡ Some i = sym (cond-false _ _ _ outside) ∙ e in absurd (cc)
     ]
 
 -- the first row is the shard's, or it isn't
-index_among_here : (rounds width before : ℕ) (s : Spot) (ss : List Spot) (shard local : ℕ) → s.shard ≡ shard
-    → index_among rounds width before (s ∷ ss) shard local ≡ index_in rounds width before s local
-index_among_here rounds width before s ss shard local same = cond-true _ _ _ (eq-eqb s.shard shard same)
+index_among_here : (lay : Lay) (s : Spot) (ss : List Spot) (o : Owner) → s.shard ≡ o.shard
+    → index_among lay (s ∷ ss) o ≡ index_in lay s o.local
+index_among_here lay s ss o same = cond-true _ _ _ (eq-eqb s.shard o.shard same)
 
-index_among_later : (rounds width before : ℕ) (s : Spot) (ss : List Spot) (shard local : ℕ) → (s.shard == shard) ≡ false
-    → index_among rounds width before (s ∷ ss) shard local ≡ index_among rounds width (before + s.quota) ss shard local
-index_among_later rounds width before s ss shard local other = cond-false _ _ _ other
+index_among_later : (lay : Lay) (s : Spot) (ss : List Spot) (o : Owner) → (s.shard == o.shard) ≡ false
+    → index_among lay (s ∷ ss) o ≡ index_among (lay_past lay s) ss o
+index_among_later lay s ss o other = cond-false _ _ _ other
 
 -- a shard that no later row has isn't that of a later row
 pub other_shard : (s : Spot) (ss : List Spot) (shard : ℕ) → is_distinct (rows_of (s ∷ ss)) ≡ true → has_shard shard (rows_of ss) ≡ true
@@ -93,36 +93,36 @@ other_shard s ss shard distinct has =
     ]
 
 -- the owner of a place in a round has the index of that round and place
-pub index_among-owner : (rounds width before : ℕ) (spots : List Spot) (round at : ℕ) (o : Owner) → is_distinct (rows_of spots) ≡ true → round < rounds
-    → owner_among spots round at ≡ Some o → index_among rounds width before spots o.shard o.local ≡ Some (round * width + before + at)
-index_among-owner rounds width before [] round at o distinct h e = absurd (cc)
-index_among-owner rounds width before (s ∷ ss) round at o distinct h e =
+pub index_among-owner : (lay : Lay) (spots : List Spot) (round at : ℕ) (o : Owner) → is_distinct (rows_of spots) ≡ true → round < lay.rounds
+    → owner_among spots round at ≡ Some o → index_among lay spots o ≡ Some (round * lay.width + lay.before + at)
+index_among-owner lay [] round at o distinct h e = absurd (cc)
+index_among-owner lay (s ∷ ss) round at o distinct h e =
     elim (cases_lt at s.quota) [
       | inl here ↦
           let first = owner_among_here s ss round at here in
           let shard : s.shard ≡ o.shard = cc in
           let local : o.local ≡ s.start + round * s.quota + at = cc in
-          index_among_here rounds width before s ss o.shard o.local shard ∙ (ap (index_in rounds width before s) local ∙ index_in-at rounds width before s round at h here)
+          index_among_here lay s ss o shard ∙ (ap (index_in lay s) local ∙ index_in-at lay s round at h here)
       | inr past ↦
           let later : owner_among ss round (at - s.quota) ≡ Some o = sym (owner_among_past s ss round at past) ∙ e in
           let other = other_shard s ss o.shard distinct (owner_among-has_shard ss round (at - s.quota) o later) in
-          let index : round * width + (before + s.quota) + (at - s.quota) ≡ round * width + before + at = omega arith in
-          index_among_later rounds width before s ss o.shard o.local other ∙ (index_among-owner rounds width (before + s.quota) ss round (at - s.quota) o ((and_parts _ _ distinct).1) h later ∙ ap (λ n. Some n) index)
+          let index : round * lay.width + (lay.before + s.quota) + (at - s.quota) ≡ round * lay.width + lay.before + at = omega arith in
+          index_among_later lay s ss o other ∙ (index_among-owner (lay_past lay s) ss round (at - s.quota) o ((and_parts _ _ distinct).1) h later ∙ ap (λ n. Some n) index)
     ]
 
 -- an index that the rows give to a shard's local tells the round and the place in it
-pub index_among-is : (rounds width before : ℕ) (spots : List Spot) (shard local i : ℕ) → index_among rounds width before spots shard local ≡ Some i
-    → (round : ℕ) × (at : ℕ) × (round < rounds) × (at < quotas_of (rows_of spots)) × (i ≡ round * width + before + at) × (owner_among spots round at ≡ Some (record { shard = shard; local = local }))
-index_among-is rounds width before [] shard local i e = absurd (cc)
-index_among-is rounds width before (s ∷ ss) shard local i e =
+pub index_among-is : (lay : Lay) (spots : List Spot) (shard local i : ℕ) → index_among lay spots (record { shard = shard; local = local }) ≡ Some i
+    → (round : ℕ) × (at : ℕ) × (round < lay.rounds) × (at < quotas_of (rows_of spots)) × (i ≡ round * lay.width + lay.before + at) × (owner_among spots round at ≡ Some (record { shard = shard; local = local }))
+index_among-is lay [] shard local i e = absurd (cc)
+index_among-is lay (s ∷ ss) shard local i e =
     elim (cases_Bool (s.shard == shard)) [
       | inl same ↦
           let is = eqb-true s.shard shard same in
-          let own = index_in-is rounds width before s local i (sym (index_among_here rounds width before s ss shard local is) ∙ e) in
+          let own = index_in-is lay s local i (sym (index_among_here lay s ss (record { shard = shard; local = local }) is) ∙ e) in
           let owner : ℕ → ℕ → Option Owner = λ s l. Some (record { shard = s; local = l }) in
           (own.0, own.1, own.2, omega (arith, own.3), own.4, owner_among_here s ss own.0 own.1 own.3 ∙ (ap (λ n. owner n (s.start + own.0 * s.quota + own.1)) is ∙ ap (owner shard) (sym own.5)))
       | inr other ↦
-          let later = index_among-is rounds width (before + s.quota) ss shard local i (sym (index_among_later rounds width before s ss shard local other) ∙ e) in
+          let later = index_among-is (lay_past lay s) ss shard local i (sym (index_among_later lay s ss (record { shard = shard; local = local }) other) ∙ e) in
           let at : s.quota + later.1 - s.quota ≡ later.1 = omega arith in
           (later.0, s.quota + later.1, later.2, omega (arith, later.3), omega (arith, later.4), owner_among_past s ss later.0 (s.quota + later.1) (omega arith) ∙ (ap (owner_among ss later.0) at ∙ later.5))
     ]
@@ -140,28 +140,28 @@ slice_get-layout_of w i h =
 
 -- an owner in a layout has by the rule the index at which it stands
 pub index_from_entry : (w : Window) (i : ℕ) (o : Owner) → IsWindow w → slice_get (layout_of w) i ≡ Some o
-    → index_among w.rounds (width_of w) 0 w.spots o.shard o.local ≡ Some i
+    → index_among (lay_of w) w.spots o ≡ Some i
 index_from_entry w i o is e =
     let width = width_of w in
     let within : i < w.rounds * width = omega (arith, length-layout_of w, slice_get_within (layout_of w) i o e) in
     let some = positive w.rounds width i within in
     let split = div-add-mod' i width in
     let index : (i / width) * width + 0 + i % width ≡ i = omega arith in
-    index_among-owner w.rounds width 0 w.spots (i / width) (i % width) o is.table.distinct (div_below i width w.rounds some within) (sym (slice_get-layout_of w i within) ∙ e)
+    index_among-owner (lay_of w) w.spots (i / width) (i % width) o is.table.distinct (div_below i width w.rounds some within) (sym (slice_get-layout_of w i within) ∙ e)
     ∙ ap (λ n. Some n) index
 
 -- where the rule gives an index to a local, the local's owner stands at that index
-pub entry_from_index : (w : Window) (shard local i : ℕ) → index_among w.rounds (width_of w) 0 w.spots shard local ≡ Some i
+pub entry_from_index : (w : Window) (shard local i : ℕ) → index_among (lay_of w) w.spots (record { shard = shard; local = local }) ≡ Some i
     → (i < w.rounds * width_of w) × (slice_get (layout_of w) i ≡ Some (record { shard = shard; local = local }))
 entry_from_index w shard local i e =
     let width = width_of w in
-    let found = index_among-is w.rounds width 0 w.spots shard local i e in
+    let found = index_among-is (lay_of w) w.spots shard local i e in
     let index : i ≡ found.0 * width + found.1 = omega (arith, found.4) in
     let below = mul-add-lt found.0 width found.1 w.rounds found.2 found.3 in
     let round : 0 + found.0 ≡ found.0 = omega arith in
     (omega arith, ap (slice_get (layout_of w)) index ∙ slice_get-rounds_from w.spots 0 w.rounds found.0 found.1 found.2 found.3 ∙ (ap (λ n. owner_among w.spots n found.1) round ∙ found.5))
 
-index_of_from : (w : Window) (shard local : ℕ) (index : Option ℕ) → IsWindow w → index_among w.rounds (width_of w) 0 w.spots shard local ≡ index
+index_of_from : (w : Window) (shard local : ℕ) (index : Option ℕ) → IsWindow w → index_among (lay_of w) w.spots (record { shard = shard; local = local }) ≡ index
     → index_of (layout_of w) shard local ≡ index
 index_of_from w shard local None is e =
     index_of_none (layout_of w) shard local (λ j h. let there : None ≡ Some j = sym e ∙ index_from_entry w j (record { shard = shard; local = local }) is h in absurd (cc))
@@ -170,7 +170,7 @@ index_of_from w shard local (Some i) is e =
 
 -- the index of a local in the layout is the one of the rule
 pub index_of-layout_of : (w : Window) (shard local : ℕ) → IsWindow w
-    → index_of (layout_of w) shard local ≡ index_among w.rounds (width_of w) 0 w.spots shard local
+    → index_of (layout_of w) shard local ≡ index_among (lay_of w) w.spots (record { shard = shard; local = local })
 index_of-layout_of w shard local is = index_of_from w shard local _ is refl
 
 -- the place of a local in the layout is its position by the rule

@@ -5,24 +5,35 @@ use Rattle.fix_ante.specs.declared.spots.Spot.{Spot}
 use Rattle.fix_ante.specs.declared.spots.Owner.{Owner}
 use Rattle.fix_ante.specs.Windows.{Window, width_of}
 
--- the index of a row's local in a layout of so many rounds of this width, where this many positions of each round
--- stand before the row: none where the local is before the row's start, or after its last round
-abbrev pub index_in : ℕ → ℕ → ℕ → Spot → ℕ → Option ℕ
-index_in rounds width before s local =
-    if nat_le s.start local && nat_lt (local - s.start) (rounds * s.quota)
-    then Some (((local - s.start) / s.quota) * width + before + (local - s.start) % s.quota)
+-- how rows stand in a layout: in so many rounds of this width, with this many positions of each round before the first of the rows
+pub record Lay : Type 0 where
+  pub rounds : ℕ
+  pub width : ℕ
+  pub before : ℕ
+
+-- the rows of a window
+abbrev pub lay_of : Window → Lay
+lay_of w = record { rounds = w.rounds; width = width_of w; before = 0 }
+
+-- the rows behind this one
+abbrev pub lay_past : Lay → Spot → Lay
+lay_past lay s = record { rounds = lay.rounds; width = lay.width; before = lay.before + s.quota }
+
+-- the index of a row's local in a layout in which the row stands so: none where the local is before the row's start, or after its last round
+abbrev pub index_in : Lay → Spot → ℕ → Option ℕ
+index_in lay s local =
+    if nat_le s.start local && nat_lt (local - s.start) (lay.rounds * s.quota)
+    then Some (((local - s.start) / s.quota) * lay.width + lay.before + (local - s.start) % s.quota)
     else None
 
--- the same of a shard's local: none where no row is the shard's
-abbrev pub index_among : ℕ → ℕ → ℕ → List Spot → ℕ → ℕ → Option ℕ
-index_among rounds width before [] shard local = None
-index_among rounds width before (s ∷ ss) shard local =
-    if s.shard == shard then index_in rounds width before s local
-    else index_among rounds width (before + s.quota) ss shard local
+-- the same of an owner, a shard's local: none where no row is the shard's
+abbrev pub index_among : Lay → List Spot → Owner → Option ℕ
+index_among lay [] o = None
+index_among lay (s ∷ ss) o = if s.shard == o.shard then index_in lay s o.local else index_among (lay_past lay s) ss o
 
 -- the position of a shard's local, by the rule of quotas
 abbrev pub position_of : Window → ℕ → ℕ → Option ℕ
-position_of w shard local = option_map (λ i. w.base + i) (index_among w.rounds (width_of w) 0 w.spots shard local)
+position_of w shard local = option_map (λ i. w.base + i) (index_among (lay_of w) w.spots (record { shard = shard; local = local }))
 
 -- who has a place in a round: the first row whose quota reaches it
 abbrev pub owner_among : List Spot → ℕ → ℕ → Option Owner

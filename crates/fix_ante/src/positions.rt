@@ -62,7 +62,7 @@ fn owner_in(window: &Window, round: u64, at: u64) -> Option<Owner>
 fn index_of(window: &Window, rounds: u64, width: u64, shard: u8, local: u64) -> Option<u64>
     requires rounds { rounds ≤ 1024 }
     requires width { width ≤ 384 }
-    ensures index { result ≡ index_among rounds width 0 window.now.spots shard local }
+    ensures index { result ≡ index_among (record { rounds = rounds; width = width; before = 0 }) window.now.spots (record { shard = shard; local = local }) }
     ensures most { IfSome result (λ i. i ≤ 2 ^ 20) }
 {
     let mut before = 0;
@@ -81,7 +81,7 @@ fn index_in(rounds: u64, width: u64, before: u64, spot: &Spot, local: u64) -> Op
     requires rounds { rounds ≤ 1024 }
     requires width { width ≤ 384 }
     requires before { before ≤ 2048 }
-    ensures index { result ≡ index_in rounds width before spot.now local }
+    ensures index { result ≡ index_in (record { rounds = rounds; width = width; before = before }) spot.now local }
     ensures most { IfSome result (λ i. i ≤ 2 ^ 20) }
 {
     let quota = u64::from(spot.quota);

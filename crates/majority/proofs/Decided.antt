@@ -91,9 +91,9 @@ module _ {V : Type 0} where
       (chosen.0, chosen.1, All-weaker (λ j. HasVote votes j b v) (λ j. HasVote votes' j b v) (λ j vote. kept _ vote) chosen.0 chosen.2)
 
   -- an attempt that counts a majority of acceptances has had its value chosen
-  pub IsChosen-counted : (n i : ℕ) (slot : SlotState V) (a : Attempt V) (v : V) → IsSound n slot → slot.attempts i ≡ Some a → a.sending ≡ Some v
+  pub IsChosenAt_counted : (n i : ℕ) (slot : SlotState V) (a : Attempt V) (v : V) → IsSound n slot → slot.attempts i ≡ Some a → a.sending ≡ Some v
       → n < 2 * length a.acceptances → IsChosenAt n slot.votes a.ballot v
-  IsChosen-counted n i slot a v sound stood sending most =
+  IsChosenAt_counted n i slot a v sound stood sending most =
       let attempt : IsAttempt n slot.votes (bars_of slot.acceptors i) slot.sent i a = subst (λ t. IsAttemptIfAny n slot.votes (bars_of slot.acceptors i) slot.sent i t) stood (sound.attempts i) in
       let voted = subst (λ s. AttemptStands slot.votes slot.sent n a s) sending attempt.stands in
       (a.acceptances, record { within = voted.within; distinct = voted.distinct; most = most }, All-weaker (Contains a.acceptances) (λ j. HasVote slot.votes j a.ballot v) (λ j member. voted.voted j member) a.acceptances (All-contains_itself a.acceptances))
@@ -105,9 +105,9 @@ module _ {V : Type 0} where
   majority_from_answer (Some w) v n from acceptances s e = chosen_test (is_majority n (with_replica from acceptances)) (length (with_replica from acceptances)) e
 
   -- an attempt that answers to an acceptance that its value is chosen has had it chosen
-  pub IsChosen-answered : (n i from : ℕ) (slot : SlotState V) (a : Attempt V) (v : V) → IsSound n slot → slot.attempts i ≡ Some a → a.sending ≡ Some v →
+  pub IsChosenAt_answered : (n i from : ℕ) (slot : SlotState V) (a : Attempt V) (v : V) → IsSound n slot → slot.attempts i ≡ Some a → a.sending ≡ Some v →
       (from ≡ i) ⊎ Contains slot.sent (Accepted from a.ballot) → accepted_answer from a ≡ accepting.Chosen → IsChosenAt n slot.votes a.ballot v
-  IsChosen-answered n i from slot a v sound stood sending came answer =
+  IsChosenAt_answered n i from slot a v sound stood sending came answer =
       let attempt : IsAttempt n slot.votes (bars_of slot.acceptors i) slot.sent i a = subst (λ t. IsAttemptIfAny n slot.votes (bars_of slot.acceptors i) slot.sent i t) stood (sound.attempts i) in
       let before : AttemptsAreVoted slot.votes n a v = subst (λ s. AttemptStands slot.votes slot.sent n a s) sending attempt.stands in
       let vote : HasVote slot.votes from a.ballot v = elim came [

@@ -89,6 +89,10 @@ entry_at bytes at = do
   tag ← byte_in 0 3 bytes at
   entry_of tag.0 bytes tag.1
 
+-- a ballot, and the entry that was voted at it
+unfoldable pub vote_at : Reader (ℕ × Entry) WireError
+vote_at = two_of ballot_at entry_at (λ ballot entry. (ballot, entry))
+
 -- ---- messages
 
 unfoldable pub report_of : ℕ → Reader (Option (ℕ × Entry)) WireError

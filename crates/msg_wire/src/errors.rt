@@ -18,3 +18,6 @@ pub enum WireError {
     #[error("out of memory")]
     OutOfMemory,
 }
+
+/// What stands at a place, and the place after it.
+pub(crate) type Read<T> = Result<(T, usize), WireError>;

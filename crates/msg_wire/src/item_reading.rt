@@ -5,12 +5,12 @@ ghost use Rattle.msg_wire.specs.declared.errors.WireError.TheVariants.{OutOfMemo
 ghost use Rattle.msg_wire.specs.declared.item.Item.{Item};
 ghost use Rattle.msg_wire.specs.Items.{items_spelling};
 ghost use Rattle.msg_wire.specs.Valid.{AreValidItems};
-ghost use Rattle.msg_wire.specs.Decoding.{Gives, output_at, early_tag, late_tag, item_of, item_at, items_from, whole_items};
+ghost use Rattle.msg_wire.specs.Decoding.{Gives, output_at, early_tag, late_tag, item_at, items_from, whole_items};
 
-use crate::errors::WireError;
+use crate::errors::{Read, WireError};
 use crate::item::{Item, Items};
 use crate::numbers::{ballot_at, byte_in, kind_in, place_at, slot_at};
-use crate::parts::{body_at, entry_at, record_at};
+use crate::parts::{body_at, entry_at, record_at, vote_at};
 use record_codec::Output;
 use record_codec::fields::piece_at;
 use std::alloc::Global;
@@ -61,18 +61,11 @@ fn keep(items: &mut Items, item: Item) -> Result<(), WireError>
     items.push(item).map_err(|_| WireError::OutOfMemory)
 }
 
-#[tactic(auto, unfolding(crate::specs::Decoding::item_at))]
-fn item_at(alloc: Global, bytes: &[u8], at: usize) -> Result<(Item, usize), WireError>
+#[tactic(auto, unfolding(crate::specs::Decoding::item_at, crate::specs::Decoding::item_of))]
+fn item_at(alloc: Global, bytes: &[u8], at: usize) -> Read<Item>
     ensures { Gives result (item_at bytes.now at) }
 {
     let (tag, at) = kind_in(bytes, at, 1, 9)?;
-    item_of(alloc, tag, bytes, at)
-}
-
-#[tactic(auto, unfolding(crate::specs::Decoding::item_of))]
-fn item_of(alloc: Global, tag: u8, bytes: &[u8], at: usize) -> Result<(Item, usize), WireError>
-    ensures { Gives result (item_of tag bytes.now at) }
-{
     if tag < 5 {
         early_tag(alloc, tag, bytes, at)
     } else {
@@ -81,8 +74,8 @@ fn item_of(alloc: Global, tag: u8, bytes: &[u8], at: usize) -> Result<(Item, usi
 }
 
 /// Tags 1 to 4.
-#[tactic(auto, unfolding(crate::specs::Decoding::early_tag))]
-fn early_tag(alloc: Global, tag: u8, bytes: &[u8], at: usize) -> Result<(Item, usize), WireError>
+#[tactic(auto, unfolding(crate::specs::Decoding::early_tag, crate::specs::Decoding::vote_at))]
+fn early_tag(alloc: Global, tag: u8, bytes: &[u8], at: usize) -> Read<Item>
     ensures { Gives result (early_tag tag bytes.now at) }
 {
     match tag {
@@ -93,8 +86,7 @@ fn early_tag(alloc: Global, tag: u8, bytes: &[u8], at: usize) -> Result<(Item, u
         }
         2 => {
             let (slot, at) = slot_at(bytes, at)?;
-            let (ballot, at) = ballot_at(bytes, at)?;
-            let (entry, at) = entry_at(bytes, at)?;
+            let ((ballot, entry), at) = vote_at(bytes, at)?;
             Ok((
                 Item::Accepted {
                     slot,
@@ -117,7 +109,7 @@ fn early_tag(alloc: Global, tag: u8, bytes: &[u8], at: usize) -> Result<(Item, u
 
 /// Tags 5 to 9.
 #[tactic(auto, unfolding(crate::specs::Decoding::late_tag))]
-fn late_tag(alloc: Global, tag: u8, bytes: &[u8], at: usize) -> Result<(Item, usize), WireError>
+fn late_tag(alloc: Global, tag: u8, bytes: &[u8], at: usize) -> Read<Item>
     ensures { Gives result (late_tag tag bytes.now at) }
 {
     match tag {
@@ -145,7 +137,7 @@ fn late_tag(alloc: Global, tag: u8, bytes: &[u8], at: usize) -> Result<(Item, us
 
 /// What an application wrote, behind its length.
 #[tactic(auto, unfolding(crate::specs::Decoding::output_at))]
-fn output_at(bytes: &[u8], at: usize) -> Result<(Output, usize), WireError>
+fn output_at(bytes: &[u8], at: usize) -> Read<Output>
     ensures { Gives result (output_at bytes.now at) }
 {
     let (len, at) = byte_in(bytes, at, 0, 64)?;

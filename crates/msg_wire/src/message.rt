@@ -122,69 +122,61 @@ impl Clone for What {
 
     #[inline(always)]
     fn clone(&self) -> Result<What, AllocError> {
-        Ok(match self {
+        Ok(match *self {
             What::Append {
                 first,
                 number,
-                body,
+                ref body,
             } => What::Append {
-                first: *first,
-                number: *number,
+                first,
+                number,
                 body: body.clone()?,
             },
-            What::Ack { number, position } => What::Ack {
-                number: *number,
-                position: *position,
-            },
-            What::AskFate { first, least } => What::AskFate {
-                first: *first,
-                least: *least,
-            },
-            What::Fate { next } => What::Fate { next: *next },
-            What::Replicate { local, rec } => What::Replicate {
-                local: *local,
+            What::Ack { number, position } => What::Ack { number, position },
+            What::AskFate { first, least } => What::AskFate { first, least },
+            What::Fate { next } => What::Fate { next },
+            What::Replicate { local, ref rec } => What::Replicate {
+                local,
                 rec: rec.clone()?,
             },
-            What::Replicated { len } => What::Replicated { len: *len },
-            What::Report { len } => What::Report { len: *len },
-            What::Fill { wanted } => What::Fill { wanted: *wanted },
-            What::Deliver { local, rec } => What::Deliver {
-                local: *local,
+            What::Replicated { len } => What::Replicated { len },
+            What::Report { len } => What::Report { len },
+            What::Fill { wanted } => What::Fill { wanted },
+            What::Deliver { local, ref rec } => What::Deliver {
+                local,
                 rec: rec.clone()?,
             },
-            What::Fetch { local } => What::Fetch { local: *local },
-            What::Prepare { slot, ballot } => What::Prepare {
-                slot: *slot,
-                ballot: *ballot,
-            },
+            What::Fetch { local } => What::Fetch { local },
+            What::Prepare { slot, ballot } => What::Prepare { slot, ballot },
             What::Promise {
                 slot,
                 ballot,
-                accepted,
+                ref accepted,
             } => What::Promise {
-                slot: *slot,
-                ballot: *ballot,
+                slot,
+                ballot,
                 accepted: accepted.clone()?,
             },
             What::Accept {
                 slot,
                 ballot,
-                entry,
+                ref entry,
             } => What::Accept {
-                slot: *slot,
-                ballot: *ballot,
+                slot,
+                ballot,
                 entry: entry.clone()?,
             },
-            What::Accepted { slot, ballot } => What::Accepted {
-                slot: *slot,
-                ballot: *ballot,
-            },
-            What::Decided { slot, count, entry } => What::Decided {
-                slot: *slot,
-                count: *count,
+            What::Accepted { slot, ballot } => What::Accepted { slot, ballot },
+            What::Decided {
+                slot,
+                count,
+                ref entry,
+            } => What::Decided {
+                slot,
+                count,
                 entry: entry.clone()?,
             },
-            What::Learn { slot } => What::Learn { slot: *slot },
+            What::Learn { slot } => What::Learn { slot },
         })
     }
 }

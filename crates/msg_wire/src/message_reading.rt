@@ -8,10 +8,10 @@ ghost use Rattle.msg_wire.specs.Items.{items_spelling};
 ghost use Rattle.msg_wire.specs.Valid.{IsValidMessage, AreValidItems};
 ghost use Rattle.msg_wire.specs.Decoding.{Gives, report_of, report_at, node_of, node_at, client_kind, replica_kind, sequencer_kind, what_of, what_at, letter_at, message_at, whole_message};
 
-use crate::errors::WireError;
+use crate::errors::{Read, WireError};
 use crate::message::{Message, What};
 use crate::numbers::{ballot_at, byte_in, four_in, kind_in, place_at, slot_at};
-use crate::parts::{body_at, entry_at, record_at};
+use crate::parts::{body_at, entry_at, record_at, vote_at};
 use quota_table::Entry;
 use spec_base::{NodeId, Side};
 use std::alloc::Global;
@@ -41,7 +41,7 @@ fn whole_message(alloc: Global, bytes: &[u8]) -> Result<Message, WireError>
 }
 
 #[tactic(auto, unfolding(crate::specs::Decoding::message_at, crate::specs::Decoding::letter_at))]
-fn message_at(alloc: Global, bytes: &[u8], at: usize) -> Result<(Message, usize), WireError>
+fn message_at(alloc: Global, bytes: &[u8], at: usize) -> Read<Message>
     ensures { Gives result (message_at bytes.now at) }
 {
     let (_, at) = kind_in(bytes, at, 1, 1)?;
@@ -52,7 +52,7 @@ fn message_at(alloc: Global, bytes: &[u8], at: usize) -> Result<(Message, usize)
 }
 
 #[tactic(auto, unfolding(crate::specs::Decoding::node_at))]
-fn node_at(bytes: &[u8], at: usize) -> Result<(NodeId, usize), WireError>
+fn node_at(bytes: &[u8], at: usize) -> Read<NodeId>
     ensures { Gives result (node_at bytes.now at) }
 {
     let (class, at) = byte_in(bytes, at, 0, 4)?;
@@ -60,7 +60,7 @@ fn node_at(bytes: &[u8], at: usize) -> Result<(NodeId, usize), WireError>
 }
 
 #[tactic(auto, unfolding(crate::specs::Decoding::node_of))]
-fn node_of(class: u8, bytes: &[u8], at: usize) -> Result<(NodeId, usize), WireError>
+fn node_of(class: u8, bytes: &[u8], at: usize) -> Read<NodeId>
     ensures { Gives result (node_of class bytes.now at) }
 {
     match class {
@@ -88,7 +88,7 @@ fn node_of(class: u8, bytes: &[u8], at: usize) -> Result<(NodeId, usize), WireEr
 }
 
 #[tactic(auto, unfolding(crate::specs::Decoding::what_at))]
-fn what_at(alloc: Global, bytes: &[u8], at: usize) -> Result<(What, usize), WireError>
+fn what_at(alloc: Global, bytes: &[u8], at: usize) -> Read<What>
     ensures { Gives result (what_at bytes.now at) }
 {
     let (kind, at) = kind_in(bytes, at, 1, 16)?;
@@ -96,7 +96,7 @@ fn what_at(alloc: Global, bytes: &[u8], at: usize) -> Result<(What, usize), Wire
 }
 
 #[tactic(auto, unfolding(crate::specs::Decoding::what_of))]
-fn what_of(alloc: Global, kind: u8, bytes: &[u8], at: usize) -> Result<(What, usize), WireError>
+fn what_of(alloc: Global, kind: u8, bytes: &[u8], at: usize) -> Read<What>
     ensures { Gives result (what_of kind bytes.now at) }
 {
     if kind < 5 {
@@ -110,7 +110,7 @@ fn what_of(alloc: Global, kind: u8, bytes: &[u8], at: usize) -> Result<(What, us
 
 /// Kinds 1 to 4, between clients and replicas.
 #[tactic(auto, unfolding(crate::specs::Decoding::client_kind))]
-fn client_kind(alloc: Global, kind: u8, bytes: &[u8], at: usize) -> Result<(What, usize), WireError>
+fn client_kind(alloc: Global, kind: u8, bytes: &[u8], at: usize) -> Read<What>
     ensures { Gives result (client_kind kind bytes.now at) }
 {
     let (first, at) = place_at(bytes, at)?;
@@ -142,12 +142,7 @@ fn client_kind(alloc: Global, kind: u8, bytes: &[u8], at: usize) -> Result<(What
 
 /// Kinds 5 to 10, to and from replicas.
 #[tactic(auto, unfolding(crate::specs::Decoding::replica_kind))]
-fn replica_kind(
-    alloc: Global,
-    kind: u8,
-    bytes: &[u8],
-    at: usize,
-) -> Result<(What, usize), WireError>
+fn replica_kind(alloc: Global, kind: u8, bytes: &[u8], at: usize) -> Read<What>
     ensures { Gives result (replica_kind kind bytes.now at) }
 {
     let (local, at) = place_at(bytes, at)?;
@@ -168,8 +163,8 @@ fn replica_kind(
 }
 
 /// Kinds 11 to 16, to and from sequencers.
-#[tactic(auto, unfolding(crate::specs::Decoding::sequencer_kind))]
-fn sequencer_kind(kind: u8, bytes: &[u8], at: usize) -> Result<(What, usize), WireError>
+#[tactic(auto, unfolding(crate::specs::Decoding::sequencer_kind, crate::specs::Decoding::vote_at))]
+fn sequencer_kind(kind: u8, bytes: &[u8], at: usize) -> Read<What>
     ensures { Gives result (sequencer_kind kind bytes.now at) }
 {
     let (slot, at) = slot_at(bytes, at)?;
@@ -191,8 +186,7 @@ fn sequencer_kind(kind: u8, bytes: &[u8], at: usize) -> Result<(What, usize), Wi
             ))
         }
         13 => {
-            let (ballot, at) = ballot_at(bytes, at)?;
-            let (entry, at) = entry_at(bytes, at)?;
+            let ((ballot, entry), at) = vote_at(bytes, at)?;
             Ok((
                 What::Accept {
                     slot,
@@ -216,21 +210,20 @@ fn sequencer_kind(kind: u8, bytes: &[u8], at: usize) -> Result<(What, usize), Wi
 }
 
 #[tactic(auto, unfolding(crate::specs::Decoding::report_at))]
-fn report_at(bytes: &[u8], at: usize) -> Result<(Option<(u32, Entry)>, usize), WireError>
+fn report_at(bytes: &[u8], at: usize) -> Read<Option<(u32, Entry)>>
     ensures { Gives result (report_at bytes.now at) }
 {
     let (flag, at) = byte_in(bytes, at, 0, 1)?;
     report_of(flag, bytes, at)
 }
 
-#[tactic(auto, unfolding(crate::specs::Decoding::report_of))]
-fn report_of(flag: u8, bytes: &[u8], at: usize) -> Result<(Option<(u32, Entry)>, usize), WireError>
+#[tactic(auto, unfolding(crate::specs::Decoding::report_of, crate::specs::Decoding::vote_at))]
+fn report_of(flag: u8, bytes: &[u8], at: usize) -> Read<Option<(u32, Entry)>>
     ensures { Gives result (report_of flag bytes.now at) }
 {
     if flag == 0 {
         return Ok((None, at));
     }
-    let (ballot, at) = ballot_at(bytes, at)?;
-    let (entry, at) = entry_at(bytes, at)?;
-    Ok((Some((ballot, entry)), at))
+    let (vote, at) = vote_at(bytes, at)?;
+    Ok((Some(vote), at))
 }

@@ -2,10 +2,10 @@
 
 ghost use Rattle.std.specs.Prelude.{◌≡◌, ◌≤◌, []};
 ghost use Rattle.quota_table.specs.Rows.{has_shard};
-ghost use Rattle.msg_wire.specs.Decoding.{Gives, body_at, record_of, record_at, fresh_at, row_at, rows_at, table_at, entry_of, entry_at};
+ghost use Rattle.msg_wire.specs.Decoding.{Gives, body_at, record_of, record_at, fresh_at, row_at, rows_at, table_at, entry_of, entry_at, vote_at};
 
-use crate::errors::WireError;
-use crate::numbers::{byte_in, four_in, place_at, two_in};
+use crate::errors::{Read, WireError};
+use crate::numbers::{ballot_at, byte_in, four_in, place_at, two_in};
 use arrayvec::ArrayVec;
 use quota_table::{Entry, Row, Table};
 use record_codec::fields::piece_at;
@@ -14,7 +14,7 @@ use std::alloc::Global;
 
 /// A body behind its length.
 #[tactic(auto, unfolding(crate::specs::Decoding::body_at))]
-pub(crate) fn body_at(alloc: Global, bytes: &[u8], at: usize) -> Result<(Body, usize), WireError>
+pub(crate) fn body_at(alloc: Global, bytes: &[u8], at: usize) -> Read<Body>
     ensures { Gives result (body_at bytes.now at) }
 {
     let (len, at) = two_in(bytes, at, 0, 1024)?;
@@ -24,11 +24,7 @@ pub(crate) fn body_at(alloc: Global, bytes: &[u8], at: usize) -> Result<(Body, u
 }
 
 #[tactic(auto, unfolding(crate::specs::Decoding::record_at))]
-pub(crate) fn record_at(
-    alloc: Global,
-    bytes: &[u8],
-    at: usize,
-) -> Result<(Record, usize), WireError>
+pub(crate) fn record_at(alloc: Global, bytes: &[u8], at: usize) -> Read<Record>
     ensures { Gives result (record_at bytes.now at) }
 {
     let (tag, at) = byte_in(bytes, at, 0, 1)?;
@@ -36,7 +32,7 @@ pub(crate) fn record_at(
 }
 
 #[tactic(auto, unfolding(crate::specs::Decoding::record_of))]
-fn record_of(alloc: Global, tag: u8, bytes: &[u8], at: usize) -> Result<(Record, usize), WireError>
+fn record_of(alloc: Global, tag: u8, bytes: &[u8], at: usize) -> Read<Record>
     ensures { Gives result (record_of tag bytes.now at) }
 {
     if tag == 0 {
@@ -49,7 +45,7 @@ fn record_of(alloc: Global, tag: u8, bytes: &[u8], at: usize) -> Result<(Record,
 }
 
 #[tactic(auto, unfolding(crate::specs::Decoding::entry_at))]
-pub(crate) fn entry_at(bytes: &[u8], at: usize) -> Result<(Entry, usize), WireError>
+pub(crate) fn entry_at(bytes: &[u8], at: usize) -> Read<Entry>
     ensures { Gives result (entry_at bytes.now at) }
 {
     let (tag, at) = byte_in(bytes, at, 0, 3)?;
@@ -57,7 +53,7 @@ pub(crate) fn entry_at(bytes: &[u8], at: usize) -> Result<(Entry, usize), WireEr
 }
 
 #[tactic(auto, unfolding(crate::specs::Decoding::entry_of))]
-fn entry_of(tag: u8, bytes: &[u8], at: usize) -> Result<(Entry, usize), WireError>
+fn entry_of(tag: u8, bytes: &[u8], at: usize) -> Read<Entry>
     ensures { Gives result (entry_of tag bytes.now at) }
 {
     if tag == 0 {
@@ -90,14 +86,14 @@ fn entry_of(tag: u8, bytes: &[u8], at: usize) -> Result<(Entry, usize), WireErro
 }
 
 #[tactic(auto, unfolding(crate::specs::Decoding::table_at))]
-fn table_at(bytes: &[u8], at: usize) -> Result<(Table, usize), WireError>
+fn table_at(bytes: &[u8], at: usize) -> Read<Table>
     ensures { Gives result (table_at bytes.now at) }
 {
     let (count, at) = byte_in(bytes, at, 1, 6)?;
     rows_at(count, bytes, at)
 }
 
-fn rows_at(count: u8, bytes: &[u8], start: usize) -> Result<(Table, usize), WireError>
+fn rows_at(count: u8, bytes: &[u8], start: usize) -> Read<Table>
     requires some { 1 ≤ count }
     requires few { count ≤ 6 }
     ensures { Gives result (rows_at count [] bytes.now start) }
@@ -113,7 +109,7 @@ fn rows_at(count: u8, bytes: &[u8], start: usize) -> Result<(Table, usize), Wire
 }
 
 #[tactic(auto, unfolding(crate::specs::Decoding::row_at))]
-fn row_at(earlier: &ArrayVec<Row, 6>, bytes: &[u8], at: usize) -> Result<(Row, usize), WireError>
+fn row_at(earlier: &ArrayVec<Row, 6>, bytes: &[u8], at: usize) -> Read<Row>
     ensures { Gives result (row_at earlier.now.items bytes.now at) }
 {
     let (shard, at) = fresh_at(earlier.as_slice(), bytes, at)?;
@@ -123,7 +119,7 @@ fn row_at(earlier: &ArrayVec<Row, 6>, bytes: &[u8], at: usize) -> Result<(Row, u
 
 /// A shard that no earlier row has.
 #[tactic(auto, unfolding(crate::specs::Decoding::fresh_at))]
-fn fresh_at(earlier: &[Row], bytes: &[u8], at: usize) -> Result<(u8, usize), WireError>
+fn fresh_at(earlier: &[Row], bytes: &[u8], at: usize) -> Read<u8>
     ensures { Gives result (fresh_at earlier.now bytes.now at) }
 {
     let (shard, after) = byte_in(bytes, at, 0, 5)?;
@@ -137,4 +133,14 @@ fn is_taken(rows: &[Row], shard: u8) -> bool
     ensures { result ≡ has_shard shard rows.now }
 {
     rows.iter().any(|row| row.shard == shard)
+}
+
+/// A ballot, and the entry that was voted at it.
+#[tactic(auto, unfolding(crate::specs::Decoding::vote_at))]
+pub(crate) fn vote_at(bytes: &[u8], at: usize) -> Read<(u32, Entry)>
+    ensures { Gives result (vote_at bytes.now at) }
+{
+    let (ballot, at) = ballot_at(bytes, at)?;
+    let (entry, at) = entry_at(bytes, at)?;
+    Ok(((ballot, entry), at))
 }

@@ -33,10 +33,10 @@ next_chunk (c ∷ chunks) (suc index) d all below =
       valid = later.valid;
     }
 
-pub next_of : (chunks : Chunks) (entries : List (List ℕ)) (index : ℕ) (d : List ℕ) → AreEntries chunks → entries ≡ map items_spelling chunks
+pub next_spelled : (chunks : Chunks) (entries : List (List ℕ)) (index : ℕ) (d : List ℕ) → AreEntries chunks → entries ≡ map items_spelling chunks
     → index < length entries
     → IsNextChunk chunks index (get_or entries index d)
-next_of chunks entries index d all spelled below =
+next_spelled chunks entries index d all spelled below =
     subst (λ es. IsNextChunk chunks index (get_or es index d)) (sym spelled) (next_chunk chunks index d all (subst (λ es. index < length es) spelled below))
 
 -- with the items of the next entry behind them

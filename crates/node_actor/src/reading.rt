@@ -6,7 +6,7 @@ ghost use Rattle.net_model.specs.Names.{Message as TheMessage};
 ghost use Rattle.node_actor.specs.Cores.{IsBetween, IsReadFrom};
 
 use msg_wire::{Config, Message, WireError, decode, is_node_of, same_node};
-use node_order::place_of;
+use node_order::rank_of;
 use quota_table::{Bytes, OutOfMemory};
 use spec_base::NodeId;
 use std::alloc::Global;
@@ -43,5 +43,5 @@ fn is_from(cfg: &Config, name: NodeId, from: usize, message: &Message) -> bool
 {
     same_node(message.to, name)
         && is_node_of(cfg, message.from)
-        && place_of(cfg, message.from) == from
+        && rank_of(cfg, message.from) == from
 }

@@ -8,7 +8,7 @@ ghost use Rattle.node_actor.specs.Lanes.{frame_of, links_of, lanes, at_place, pa
 use link_faults::{FaultPlan, LinkFaults};
 use msg_wire::{Config, Message, What, encode, is_node_of};
 use node_links::{Frame, LinkOut};
-use node_order::place_of;
+use node_order::rank_of;
 use quota_table::{Bytes, OutOfMemory};
 use record_codec::Record;
 use std::alloc::Global;
@@ -68,7 +68,7 @@ fn send(
         return Ok(());
     }
     let frame = frame_of(alloc, stamp, message)?;
-    queue_at(plan, faults, outs, place_of(cfg, message.to), frame)
+    queue_at(plan, faults, outs, rank_of(cfg, message.to), frame)
 }
 
 /// Queues a frame on the link to the node at a place, as the faults of that link have it.

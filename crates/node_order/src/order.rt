@@ -70,7 +70,7 @@ fn push_consumers(order: &mut Vec<NodeId>, cfg: &Config) -> Result<(), OutOfMemo
 }
 
 /// The place of a node in that order, in O(1).
-pub fn place_of(cfg: &Config, node: NodeId) -> usize
+pub fn rank_of(cfg: &Config, node: NodeId) -> usize
     requires valid { IsValidConfig cfg.now }
     requires node { IsNodeOf cfg.now node }
     ensures { result ≡ rank_of cfg.now node }

@@ -1,6 +1,6 @@
 //! The nodes of three clusters by name, each with its place.
 
-use crate::{nodes_in_order, place_of};
+use crate::{nodes_in_order, rank_of};
 use life_tables::clusters::{PAIR, SINGLE, TRIO};
 use life_tables::{Cluster, tell_node};
 use msg_wire::is_node_of;
@@ -16,7 +16,7 @@ fn told(alloc: Global, cluster: &Cluster<'_>) -> Result<String, Fail> {
     for node in &order {
         if is_node_of(&cfg, *node) {
             tell_node(&mut text, *node)?;
-            write!(text, " {}, ", place_of(&cfg, *node))?;
+            write!(text, " {}, ", rank_of(&cfg, *node))?;
         }
     }
     Ok(text)

@@ -39,11 +39,11 @@ impl Model for Body {
     ghost Value = { List ℕ };
 
     ghost use Rattle.std.specs.Prelude.{length, ◌≤◌};
-    ghost use Rattle.record_codec.specs.inside.Kept.{kept_bytes, IsKept};
+    ghost use Rattle.record_codec.specs.inside.Kept.{kept_bytes, IsKeptByLength};
 
     ghost view = { λ b. kept_bytes b.kept };
 
-    ghost invariant = { λ b. IsKept b.kept × (length (kept_bytes b.kept) ≤ 1024) };
+    ghost invariant = { λ b. IsKeptByLength b.kept × (length (kept_bytes b.kept) ≤ 1024) };
 }
 
 impl Clone for Body {

@@ -16,7 +16,7 @@ use Rattle.runs.specs.Marks.{IsPrefix, known_by}
 use Rattle.runs.specs.Chosen.{KnownIsChosen}
 use Rattle.runs.specs.Runs.{IsPastOf}
 use Rattle.runs.proofs.SameNodes.{same_node_is}
-use Rattle.safety_frame.specs.Agreed.{agreed_list}
+use Rattle.safety_frame.specs.AgreedList.{agreed_list}
 use Rattle.safety_frame.proofs.NodeKinds.{Kind, after, stored, replicas, clients, consumers}
 use Rattle.safety_frame.proofs.Pasts.{other_stored, no_items, known_grows, on_own, of_sequencer, of_replica, of_client, of_consumer}
 use Rattle.safety_frame.proofs.Lists.{index_stays}

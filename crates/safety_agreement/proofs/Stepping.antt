@@ -3,7 +3,7 @@ use Rattle.std.proofs.Common.{◌≡◌, ◌∙◌, ℕ, List, [], ◌∷◌, �
 use Rattle.std.specs.List.{slice_get}
 use Rattle.majority.specs.Votes.{IsChosenByVotes}
 use Rattle.majority.specs.Slot.{SlotState}
-use Rattle.majority.proofs.Decided.{IsChosen-counted}
+use Rattle.majority.proofs.Decided.{IsChosenAt_counted}
 use Rattle.majority.proofs.Majorities.{most_from_test}
 use Rattle.msg_wire.specs.Nodes.{number_of}
 use Rattle.node_rules.specs.Names.{Event, Message}
@@ -82,7 +82,7 @@ module _ (cfg : Config) (slot : ℕ) (me : NodeId) (start : SlotState Entry) (ea
       let stood = w.mirrors.attempt ∙ (ap (attempt_at slot) stands ∙ at_slot slot a slot_is) in
       let count = (stands_there cfg.seqs i w.state given.within w.sound a.attempt stood).count in (
         a.attempt.ballot,
-        IsChosen-counted cfg.seqs i w.state a.attempt entry w.sound stood sending
+        IsChosenAt_counted cfg.seqs i w.state a.attempt entry w.sound stood sending
             (most_from_test cfg.seqs a.attempt.n a.attempt.acceptances count most),
       )
 

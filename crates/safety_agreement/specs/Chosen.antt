@@ -2,7 +2,7 @@
 use Rattle.net_model.specs.Pasts.{Past}
 use Rattle.runs.specs.Names.{Config}
 use Rattle.runs.specs.Chosen.{IsAgreed}
-use Rattle.safety_frame.specs.Agreed.{agreed_list}
+use Rattle.safety_frame.specs.AgreedList.{agreed_list}
 
 abbrev pub AgreedIsChosen : Config → Past → Type 0
 AgreedIsChosen cfg past = IsAgreed cfg past (agreed_list cfg past)

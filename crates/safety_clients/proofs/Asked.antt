@@ -41,7 +41,7 @@ use Rattle.safety_frame.proofs.Names.{IsNamed, states_named}
 use Rattle.safety_frame.proofs.StableItems.{known_is, log_is}
 use Rattle.safety_frame.proofs.StableParts.{replica_known}
 use Rattle.safety_clients.specs.Answers.{Answers, AsksAreAnswered}
-use Rattle.safety_clients.proofs.Agreeing.{end_is, end_reached}
+use Rattle.safety_clients.proofs.KnownEnds.{end_is, end_reached}
 use Rattle.safety_clients.proofs.Fates.{reach_of, runs_in_front}
 use Rattle.safety_clients.proofs.Fronts.{ended}
 use Rattle.safety_clients.proofs.Numbered.{range_has, record_in_front}

@@ -21,14 +21,14 @@ use Rattle.runs.specs.Maps.{WasKnown}
 use Rattle.runs.specs.Marks.{IsPrefix, log_by, numbers_of_client}
 use Rattle.runs.specs.Homes.{Home, homes_at, EndsWhereNextBegins, HomesEndWhereTheNextBegins, HasRecordOf, LaterHomesBeginLater, ClientsHold}
 use Rattle.runs.proofs.SameNodes.{same_node_is}
-use Rattle.safety_frame.specs.Agreed.{agreed_list}
+use Rattle.safety_frame.specs.AgreedList.{agreed_list}
 use Rattle.safety_frame.specs.EveryRun.{OfEveryRun}
 use Rattle.safety_frame.proofs.Pasts.{other_stored, known_grows}
 use Rattle.safety_frame.proofs.Lists.{begins_itself, begins_on, begins_more}
 use Rattle.safety_logs.proofs.AgreedLists.{shorter, agreed_begins}
 use Rattle.safety_logs.proofs.CoveredLogs.{covered_is_common}
 use Rattle.safety_logs.proofs.Growing.{held_grows}
-use Rattle.safety_clients.proofs.Agreeing.{agreed_known, same_end, known_end_held}
+use Rattle.safety_clients.proofs.KnownEnds.{agreed_known, same_end, known_end_held}
 use Rattle.safety_clients.proofs.Chains.{EachNext, next_in, at_end}
 use Rattle.safety_clients.proofs.Fates.{held_stays, fate_there}
 use Rattle.safety_clients.proofs.Fronts.{both_begin, continues, ended, gone_stays}

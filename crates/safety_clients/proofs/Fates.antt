@@ -18,7 +18,7 @@ use Rattle.runs.specs.Logs.{BothReach}
 use Rattle.runs.specs.Marks.{numbers_of_client}
 use Rattle.runs.specs.Homes.{Home, homes_at}
 use Rattle.runs.proofs.SameNodes.{same_node_is, node_itself}
-use Rattle.safety_frame.specs.Agreed.{agreed_list}
+use Rattle.safety_frame.specs.AgreedList.{agreed_list}
 use Rattle.safety_frame.specs.EveryRun.{OfEveryRun}
 use Rattle.safety_frame.proofs.NodeKinds.{after, replicas}
 use Rattle.safety_frame.proofs.Pasts.{of_sequencer, of_client, of_consumer}
@@ -33,7 +33,7 @@ use Rattle.safety_logs.proofs.Growing.{held_grows}
 use Rattle.safety_clients.specs.Fates.{IsFate, FateTells, FatesTell}
 use Rattle.safety_clients.specs.Records.{RunFrom}
 use Rattle.safety_clients.specs.Telling.{OfShard}
-use Rattle.safety_clients.proofs.Agreeing.{agreed_known, end_is, end_held}
+use Rattle.safety_clients.proofs.KnownEnds.{agreed_known, end_is, end_held}
 use Rattle.safety_clients.proofs.Answering.{IsNextAfter, ClientIsTold, sends_tell}
 use Rattle.safety_clients.proofs.Fronts.{continues}
 use Rattle.safety_clients.proofs.Homes.{same_first}

@@ -9,7 +9,7 @@ pub mod Runs
 pub mod Records
 pub mod Numbered
 pub mod Answering
-pub mod Agreeing
+pub mod KnownEnds
 pub mod Fates
 pub mod Ends
 pub mod Acks

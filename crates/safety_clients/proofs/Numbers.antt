@@ -23,7 +23,7 @@ use Rattle.runs.specs.Runs.{IsPastOf}
 use Rattle.runs.specs.Known.{agreed_after, known_at}
 use Rattle.runs.specs.Marks.{numbers_of_client}
 use Rattle.runs.specs.Homes.{Home, homes_at, EndsWhereNextBegins}
-use Rattle.safety_frame.specs.Agreed.{agreed_list}
+use Rattle.safety_frame.specs.AgreedList.{agreed_list}
 use Rattle.safety_frame.specs.EveryRun.{OfEveryRun}
 use Rattle.safety_frame.proofs.Known.{known_folds_hold}
 use Rattle.safety_frame.proofs.Lists.{begins_on}
@@ -31,7 +31,7 @@ use Rattle.safety_logs.specs.Counting.{held_log}
 use Rattle.safety_clients.specs.Numbers.{StandsAt, NumbersAreInOrder}
 use Rattle.safety_clients.specs.Records.{RunFrom}
 use Rattle.safety_logs.proofs.AgreedLists.{agreed_begins}
-use Rattle.safety_clients.proofs.Agreeing.{agreed_known, end_is}
+use Rattle.safety_clients.proofs.KnownEnds.{agreed_known, end_is}
 use Rattle.safety_clients.proofs.Chains.{EachLater, each_later, left_later}
 use Rattle.safety_clients.proofs.Counting.{AreOrderly, are_counted}
 use Rattle.safety_clients.proofs.Ends.{ends_next, BeginsPast, left_past}

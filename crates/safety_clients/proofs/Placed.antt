@@ -19,12 +19,12 @@ use Rattle.runs.specs.Runs.{IsPastOf}
 use Rattle.runs.specs.Known.{agreed_after}
 use Rattle.runs.specs.Marks.{numbers_of_client}
 use Rattle.runs.specs.Homes.{Home, homes_at}
-use Rattle.safety_frame.specs.Agreed.{agreed_list}
+use Rattle.safety_frame.specs.AgreedList.{agreed_list}
 use Rattle.safety_frame.proofs.Known.{known_folds_hold}
 use Rattle.safety_logs.specs.Counting.{held_log}
 use Rattle.safety_clients.specs.Numbers.{StandsAt}
 use Rattle.safety_clients.specs.Records.{RunFrom}
-use Rattle.safety_clients.proofs.Agreeing.{agreed_known}
+use Rattle.safety_clients.proofs.KnownEnds.{agreed_known}
 use Rattle.safety_clients.proofs.Numbered.{rank, has_number, number_is, rank_rises}
 use Rattle.safety_clients.proofs.Records.{held_are_of_a_home}
 

@@ -8,7 +8,7 @@ use Rattle.runs.specs.Names.whats
 use Rattle.runs.specs.Known.{agreed_after, held_log}
 use Rattle.runs.specs.Marks.{numbers_of_client}
 use Rattle.runs.specs.Homes.{homes_at}
-use Rattle.safety_frame.specs.Agreed.{agreed_list}
+use Rattle.safety_frame.specs.AgreedList.{agreed_list}
 use Rattle.safety_clients.specs.Telling.{OfShard, OfClient}
 
 -- the shard is a home of the client and gone by the agreed list, and the client's records in its covered part have the

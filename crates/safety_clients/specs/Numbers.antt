@@ -8,7 +8,7 @@ use Rattle.runs.specs.Names.{Config, Record}
 use Rattle.runs.specs.Names.records
 use Rattle.runs.specs.Known.{agreed_after}
 use Rattle.runs.specs.Marks.{IsCounted, numbers_of_client}
-use Rattle.safety_frame.specs.Agreed.{agreed_list}
+use Rattle.safety_frame.specs.AgreedList.{agreed_list}
 use Rattle.safety_logs.specs.Counting.{held_log}
 
 -- the position is covered by the agreed list, and its owner's local has this record in the log that counts

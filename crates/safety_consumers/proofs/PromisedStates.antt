@@ -33,7 +33,7 @@ all_greatest cfg valid =
       starts = λ node one here primary. omega arith;
       steps = λ e past run one before primary.
           let n = after replicas cfg e.node past in
-          step_greatest n e.event (replicas.step_is n e.event (states_are replicas cfg valid past run.1 e.node one run.0.within) run.0.valid).base primary;
+          step_greatest n e.event (replicas.keeps n e.event (states_are replicas cfg valid past run.1 e.node one run.0.within) run.0.valid).0.base primary;
       stays = λ e past node n run other is. is;
     })
 

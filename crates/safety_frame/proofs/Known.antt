@@ -28,7 +28,7 @@ use Rattle.runs.specs.Known.{known_at, agreed_after}
 use Rattle.runs.specs.Marks.{known_by}
 use Rattle.runs.specs.Maps.{WasKnown, AgreeAt}
 use Rattle.runs.proofs.SameNodes.{same_node_is}
-use Rattle.safety_frame.specs.Agreed.{decided_at, longer_of, agreed_list, IsKnownToOne, AgreedListsAreLongest, KnownFolds}
+use Rattle.safety_frame.specs.AgreedList.{decided_at, longer_of, agreed_list, IsKnownToOne, AgreedListsAreLongest, KnownFolds}
 use Rattle.safety_frame.proofs.NodeKinds.{after, sequencers, replicas, clients, consumers}
 use Rattle.safety_frame.proofs.Inductions.{every_past}
 use Rattle.safety_frame.proofs.Pasts.{other_stored, no_items, known_grows, on_own}

@@ -9,7 +9,7 @@ use Rattle.net_model.specs.Tables.{StepTable, state_of, items_of}
 use Rattle.node_rules.specs.Nodes.{Node, fresh_base, reset_base}
 use Rattle.node_rules.specs.Turns.{Turn, step_of}
 use Rattle.node_rules.specs.Sound.{IsBase}
-use Rattle.node_rules.proofs.Kept.{kept_valid}
+use Rattle.node_rules.proofs.Kept.{Keeping, IsKept, kept_valid}
 use Rattle.node_rules.proofs.Places.{Places, SitesAfter, same_own}
 use Rattle.app_law.specs.declared.any_app.AnyApp.{AnyApp}
 use Rattle.app_law.specs.AnyApps.{any_fresh}
@@ -66,8 +66,8 @@ pub record Kind (S : Type 0) : Type 1 where
   pub Is : Node S → Type 0
   pub base_is : (n : Node S) → Is n → IsBase n.base
   pub fresh_is : (cfg : Config) (node : NodeId) → IsValidConfig cfg → IsNodeOf cfg node → IsOne node → Is (fresh cfg node)
-  pub step_is : (n : Node S) (event : Event) → Is n → IsValidEvent event → Is (step n event).state
-  pub step_valid : (n : Node S) (event : Event) → Is n → IsValidEvent event → IsValidStep (step_of (step n event))
+  -- what a step leaves is of the kind, and what it gives is valid
+  pub keeps : (n : Node S) (event : Event) → Is n → IsValidEvent event → Is (step n event).state × IsValidStep (step_of (step n event))
 
 -- a node's state and items in a past
 abbrev pub table : {S : Type 0} → Kind S → Config → NodeId → StepTable (Node S)
@@ -80,6 +80,10 @@ abbrev pub stored : {S : Type 0} → Kind S → Config → NodeId → Past → L
 stored k cfg node past = items_of (table k cfg node) node past
 
 -- ---- the four kinds
+
+-- what a step leaves and gives that keeps what its kind keeps
+pub left_and_given : {S : Type 0} (k : Keeping S) (n : Node S) (t : Turn S) → IsKept k n t → k.Is t.state × IsValidStep (step_of t)
+left_and_given k n t kept = (kept.is, kept_valid k n t kept)
 
 abbrev pub IsSequencing : NodeId → Type 0
 IsSequencing me = IsTrue (is_sequencer me)
@@ -99,8 +103,7 @@ sequencers = record {
   Is = IsOrderlyAs IsSequencing;
   base_is = λ n is. is.0.base;
   fresh_is = λ cfg node valid here one. (fresh_sound cfg node valid here, one);
-  step_is = λ n event is valid. (sequencer_lives.kept_step IsSequencing n event is valid).is;
-  step_valid = λ n event is valid. kept_valid (sequencer_keeping IsSequencing) n (sequencer_step n event) (sequencer_lives.kept_step IsSequencing n event is valid);
+  keeps = λ n event is valid. left_and_given (sequencer_keeping IsSequencing) n (sequencer_step n event) (sequencer_lives.kept_step IsSequencing n event is valid);
 }
 
 abbrev pub replicas : Kind ReplicaState
@@ -118,8 +121,7 @@ replicas = record {
   Is = IsReplica;
   base_is = λ n is. is.base;
   fresh_is = λ cfg node valid here one. replica_lives.fresh_sound cfg node valid here;
-  step_is = λ n event is valid. (replica_lives.kept_step n event is valid).is;
-  step_valid = λ n event is valid. kept_valid replica_keeping n (replica_step n event) (replica_lives.kept_step n event is valid);
+  keeps = λ n event is valid. left_and_given replica_keeping n (replica_step n event) (replica_lives.kept_step n event is valid);
 }
 
 abbrev pub clients : Kind ClientState
@@ -137,8 +139,7 @@ clients = record {
   Is = IsClient;
   base_is = λ n is. is.base;
   fresh_is = λ cfg node valid here one. client_sound.fresh_sound cfg node valid here;
-  step_is = λ n event is valid. (client_sound.step_sound n event is valid).is;
-  step_valid = λ n event is valid. kept_valid client_sound.client_keeping n (client_step n event) (client_sound.step_sound n event is valid);
+  keeps = λ n event is valid. left_and_given client_sound.client_keeping n (client_step n event) (client_sound.step_sound n event is valid);
 }
 
 -- a consumer's application has come to its state from a fresh one by valid records
@@ -186,6 +187,5 @@ consumers = record {
   Is = IsAnyConsumer;
   base_is = λ n any. any.is.base;
   fresh_is = λ cfg node valid here one. any_fresh_is cfg node valid here;
-  step_is = any_step_is;
-  step_valid = any_step_valid;
+  keeps = λ n event is valid. (any_step_is n event is valid, any_step_valid n event is valid);
 }

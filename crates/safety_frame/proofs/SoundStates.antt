@@ -22,7 +22,7 @@ module _ {S : Type 0} (k : Kind S) (cfg : Config) (valid : IsValidConfig cfg) wh
       every_state k cfg valid (λ past node n. k.Is n)
       (record {
         starts = λ node one here. k.fresh_is cfg node valid here one;
-        steps = λ e past run one before. k.step_is (after k cfg e.node past) e.event (before e.node one run.0.within) run.0.valid;
+        steps = λ e past run one before. (k.keeps (after k cfg e.node past) e.event (before e.node one run.0.within) run.0.valid).0;
         stays = λ e past node n run other is. is;
       })
 
@@ -32,10 +32,10 @@ module _ (cfg : Config) (valid : IsValidConfig cfg) where
   pub step_is_valid : (e : HistoryEntry) (past : Past) → IsPastOf cfg (e ∷ past) → IsValidStep (step_at cfg e.node past e.event)
   step_is_valid e past run =
       by_kind IsValidStep cfg past e.event e.node
-      (λ one. sequencers.step_valid (after sequencers cfg e.node past) e.event (states_are sequencers cfg valid past run.1 e.node one run.0.within) run.0.valid)
-      (λ one. replicas.step_valid (after replicas cfg e.node past) e.event (states_are replicas cfg valid past run.1 e.node one run.0.within) run.0.valid)
-      (λ one. clients.step_valid (after clients cfg e.node past) e.event (states_are clients cfg valid past run.1 e.node one run.0.within) run.0.valid)
-      (λ one. consumers.step_valid (after consumers cfg e.node past) e.event (states_are consumers cfg valid past run.1 e.node one run.0.within) run.0.valid)
+      (λ one. (sequencers.keeps (after sequencers cfg e.node past) e.event (states_are sequencers cfg valid past run.1 e.node one run.0.within) run.0.valid).1)
+      (λ one. (replicas.keeps (after replicas cfg e.node past) e.event (states_are replicas cfg valid past run.1 e.node one run.0.within) run.0.valid).1)
+      (λ one. (clients.keeps (after clients cfg e.node past) e.event (states_are clients cfg valid past run.1 e.node one run.0.within) run.0.valid).1)
+      (λ one. (consumers.keeps (after consumers cfg e.node past) e.event (states_are consumers cfg valid past run.1 e.node one run.0.within) run.0.valid).1)
 
   pub messages_valid : (past : Past) → IsPastOf cfg past → OfEach cfg sent (λ e past. e.sends) (λ past m. IsValidMessage m) past
   messages_valid =

@@ -3,6 +3,6 @@ pub mod Sound
 pub mod Gathered
 pub mod StableItems
 pub mod Steps
-pub mod Agreed
+pub mod AgreedList
 pub mod Replicates
 pub mod Heeded

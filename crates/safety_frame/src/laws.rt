@@ -2,7 +2,7 @@
 ghost use Rattle.safety_frame.specs.Sound.{StatesAreSound};
 ghost use Rattle.safety_frame.specs.StableItems.{StableIsItems};
 ghost use Rattle.safety_frame.specs.Steps.{StepsLeaveStates};
-ghost use Rattle.safety_frame.specs.Agreed.{AgreedListsAreLongest, KnownFolds};
+ghost use Rattle.safety_frame.specs.AgreedList.{AgreedListsAreLongest, KnownFolds};
 ghost use Rattle.safety_frame.specs.Heeded.{MessagesAreHeeded};
 ghost use Rattle.safety_frame.specs.Replicates.{ReplicatesTell};
 

@@ -9,7 +9,7 @@ use Rattle.runs.specs.Runs.{IsPastOf}
 use Rattle.runs.specs.Known.{known_at}
 use Rattle.runs.specs.Marks.{IsPrefix}
 use Rattle.runs.specs.Chosen.{AreChosen, KnownIsAgreed}
-use Rattle.safety_frame.specs.Agreed.{agreed_list}
+use Rattle.safety_frame.specs.AgreedList.{agreed_list}
 use Rattle.safety_frame.proofs.Known.{agreed_is_longest}
 use Rattle.safety_frame.proofs.Lists.{begins_on}
 use Rattle.safety_frame.proofs.Pasts.{known_grows}

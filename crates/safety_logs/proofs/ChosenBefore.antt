@@ -18,7 +18,7 @@ use Rattle.runs.specs.Known.{known_at}
 use Rattle.runs.specs.Marks.{IsPrefix, known_by}
 use Rattle.runs.specs.Chosen.{HasAccepted, IsChosen}
 use Rattle.runs.proofs.SameNodes.{same_node_is}
-use Rattle.safety_frame.specs.Agreed.{agreed_list}
+use Rattle.safety_frame.specs.AgreedList.{agreed_list}
 use Rattle.safety_frame.proofs.Lists.{begins_on, each_member}
 use Rattle.safety_frame.proofs.NodeKinds.{after, stored, sequencers}
 use Rattle.safety_frame.proofs.Pasts.{own_stored, other_stored, on_own, of_sequencer}

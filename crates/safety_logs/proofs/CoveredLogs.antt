@@ -18,7 +18,7 @@ use Rattle.runs.specs.Marks.{IsPrefix}
 use Rattle.runs.specs.Maps.{WasKnown}
 use Rattle.runs.specs.Chosen.{HasAccepted}
 use Rattle.runs.specs.Logs.{CoveredIsHeld}
-use Rattle.safety_frame.specs.Agreed.{agreed_list}
+use Rattle.safety_frame.specs.AgreedList.{agreed_list}
 use Rattle.safety_frame.specs.EveryRun.{OfEveryRun}
 use Rattle.safety_frame.proofs.Known.{known_folds_hold, agreed_is_longest}
 use Rattle.safety_frame.proofs.Lists.{begins_itself, begins_more, begins_on}

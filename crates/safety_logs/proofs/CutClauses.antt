@@ -13,7 +13,7 @@ use Rattle.runs.specs.Runs.{IsPastOf}
 use Rattle.runs.specs.Kinds.{items_at}
 use Rattle.runs.specs.Marks.{IsPrefix}
 use Rattle.runs.proofs.SameNodes.{node_itself}
-use Rattle.safety_frame.specs.Agreed.{agreed_list}
+use Rattle.safety_frame.specs.AgreedList.{agreed_list}
 use Rattle.safety_frame.specs.EveryRun.{OfEveryRun}
 use Rattle.safety_frame.proofs.Clauses.{ItemsKeep, each_item}
 use Rattle.safety_frame.proofs.Gathered.{item_stored}

@@ -9,7 +9,7 @@ use Rattle.runs.specs.Runs.{IsPastOf}
 use Rattle.runs.specs.Kinds.{sequencer_after}
 use Rattle.runs.specs.Known.{agreed_after}
 use Rattle.runs.specs.Marks.{IsPrefix}
-use Rattle.safety_frame.specs.Agreed.{agreed_list}
+use Rattle.safety_frame.specs.AgreedList.{agreed_list}
 use Rattle.safety_frame.proofs.Lists.{length_stays}
 use Rattle.safety_frame.proofs.NodeKinds.{after, sequencers}
 use Rattle.safety_frame.proofs.StableItems.{known_is}

@@ -20,7 +20,7 @@ use Rattle.runs.specs.Runs.{IsPastOf}
 use Rattle.runs.specs.Kinds.{items_at}
 use Rattle.runs.specs.Known.{agreed_after}
 use Rattle.runs.specs.Marks.{IsPrefix}
-use Rattle.safety_frame.specs.Agreed.{agreed_list}
+use Rattle.safety_frame.specs.AgreedList.{agreed_list}
 use Rattle.safety_frame.proofs.Acceptors.{acceptors_by_items}
 use Rattle.safety_frame.proofs.Lists.{begins_more, begins_on}
 use Rattle.safety_frame.proofs.NodeKinds.{after, sequencers}

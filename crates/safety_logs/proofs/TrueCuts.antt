@@ -29,7 +29,7 @@ use Rattle.runs.specs.Chosen.{AreChosen}
 use Rattle.runs.specs.Logs.{BackupIsAPrefix}
 use Rattle.runs.specs.Cuts.{HoldRound, IsTrueCut, IsTrueAcceptance, CutsAreTrue}
 use Rattle.runs.proofs.SameNodes.{node_itself}
-use Rattle.safety_frame.specs.Agreed.{agreed_list}
+use Rattle.safety_frame.specs.AgreedList.{agreed_list}
 use Rattle.safety_frame.specs.EveryRun.{OfEveryRun}
 use Rattle.safety_frame.proofs.Lists.{each_member, from_members, index_stays}
 use Rattle.safety_frame.proofs.NodeKinds.{after, sequencers, replicas, clients, consumers}

@@ -13,7 +13,7 @@ use Rattle.runs.specs.Names.entries
 use Rattle.runs.specs.Names.items
 use Rattle.runs.specs.Kinds.{sequencer_after, items_at}
 use Rattle.runs.specs.Known.{agreed_after}
-use Rattle.safety_frame.specs.Agreed.{agreed_list}
+use Rattle.safety_frame.specs.AgreedList.{agreed_list}
 use Rattle.safety_logs.specs.Counting.{counted}
 
 -- each row counts to the end of the round

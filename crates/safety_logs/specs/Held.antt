@@ -8,7 +8,7 @@ use Rattle.runs.specs.Names.nodes
 use Rattle.runs.specs.Kinds.{replica_after}
 use Rattle.runs.specs.Known.{agreed_after, agreed_at, log_at}
 use Rattle.runs.specs.Marks.{confirmations}
-use Rattle.safety_frame.specs.Agreed.{agreed_list}
+use Rattle.safety_frame.specs.AgreedList.{agreed_list}
 use Rattle.safety_logs.specs.Counting.{held_log, AreCommon, acting, durable_at}
 
 -- of each replica of the cluster

@@ -12,14 +12,14 @@ use Rattle.runs.specs.Runs.{IsPastOf}
 use Rattle.runs.specs.Known.{agreed_after, known_at}
 use Rattle.runs.specs.Maps.{WasKnown}
 use Rattle.runs.specs.Marks.{confirmed_list}
-use Rattle.safety_frame.specs.Agreed.{agreed_list}
+use Rattle.safety_frame.specs.AgreedList.{agreed_list}
 use Rattle.safety_frame.proofs.Lists.{begins_itself, begins_on}
 use Rattle.safety_consumers.specs.Owned.{held_logs, IsOwned, IsSettled}
 use Rattle.safety_consumers.proofs.Covered.{confirmed_is_covered}
 use Rattle.safety_consumers.proofs.Settled.{confirmed_is_the_prefix}
 use Rattle.safety_clients.specs.Numbers.{StandsAt, AreCovered}
 use Rattle.safety_logs.proofs.AgreedLists.{agreed_begins}
-use Rattle.safety_clients.proofs.Agreeing.{agreed_known}
+use Rattle.safety_clients.proofs.KnownEnds.{agreed_known}
 use Rattle.safety_clients.proofs.Fronts.{continues}
 
 -- the record of a covered position stands there after more entries

@@ -13,8 +13,8 @@ use Rattle.script_text.specs.Names.apps
 use Rattle.script_text.specs.Names.kinds
 use Rattle.script_text.specs.Words.{is_printable, words_of, is_word, is_decimal, value_of, SpellsDecimal}
 use Rattle.script_text.specs.Spelled.{SpellsNumber, SpellsWindow, app_name}
-use Rattle.script_text.specs.Judged.{each, from_to, number_in, first_of, both_of, due_in, window_of, version_of, version_in, is_majority_size, seqs_in, shards_in, window_in, homes_of, clients_in, app_in, consumers_in}
-use Rattle.script_text.proofs.NumberLemmas.{first_of-ok, both_of-ok, is_word-same, due_in-ok, due_in-back, number_in-ok, number_in-back, from_to-is, from_to-true, due_number-ok, due_number-back, each-ok, each-back}
+use Rattle.script_text.specs.Judged.{each, from_to, number_where, first_of, both_of, due_in, window_of, version_of, version_in, is_majority_size, seqs_in, shards_in, window_in, homes_of, clients_in, app_in, consumers_in}
+use Rattle.script_text.proofs.NumberLemmas.{first_of-ok, both_of-ok, is_word-same, due_in-ok, due_in-back, number_where_ok, number_where_back, from_to-is, from_to-true, due_number-ok, due_number-back, each-ok, each-back}
 use Rattle.script_text.proofs.RowSpelled.{window_of-ok, window_of-back}
 
 -- ---- the version
@@ -123,9 +123,9 @@ homes_of-ok : (rows : List Row) (words : List (List ℕ)) (homes : List ℕ) →
     → AllZip SpellsDecimal words homes × AllByRecursion (HasRow rows) homes × (1 ≤ length homes) × (length homes ≤ 6)
 unfolding homes_of
 homes_of-ok rows words homes e =
-    elim (chosen (from_to 1 6 (length words)) (each (number_in (λ home. has_shard home rows)) words) (Err kinds.Word) (Ok homes) e) [
+    elim (chosen (from_to 1 6 (length words)) (each (number_where (λ home. has_shard home rows)) words) (Err kinds.Word) (Ok homes) e) [
       | inl h ↦
-          let z = each-ok (number_in (λ home. has_shard home rows)) (λ word home. SpellsDecimal word home × HasRow rows home) (number_in-ok (λ home. has_shard home rows)) words homes h.1 in
+          let z = each-ok (number_where (λ home. has_shard home rows)) (λ word home. SpellsDecimal word home × HasRow rows home) (number_where_ok (λ home. has_shard home rows)) words homes h.1 in
           let apart = homes_apart rows words homes z in
           let size : length homes ≡ length words = AllZip-long SpellsDecimal words homes apart.0 in
           let bounds = from_to-is 1 6 (length words) h.0 in
@@ -139,7 +139,7 @@ unfolding homes_of
 homes_of-back rows words homes z h some few =
     let size : length homes ≡ length words = AllZip-long SpellsDecimal words homes z in
     rw (from_to-true 1 6 (length words) (omega arith) (omega arith))
-    (each-back (number_in (λ home. has_shard home rows)) (λ word home. SpellsDecimal word home × HasRow rows home) (λ word home s. number_in-back (λ home. has_shard home rows) word home s.0 s.1) words homes (homes_joined rows words homes z h))
+    (each-back (number_where (λ home. has_shard home rows)) (λ word home. SpellsDecimal word home × HasRow rows home) (λ word home s. number_where_back (λ home. has_shard home rows) word home s.0 s.1) words homes (homes_joined rows words homes z h))
 
 abbrev pub SpellsClients : List ℕ → List ℕ → Type 0
 SpellsClients line homes = (words : List (List ℕ)) × (words_of line ≡ codes "clients" ∷ words) × AllZip SpellsDecimal words homes
@@ -184,12 +184,12 @@ pub consumers_in-ok : (line : List ℕ) (k : ℕ × AppKind) → consumers_in li
     → IsTrue (is_printable line) × SpellsConsumers line k.0 k.1 × IsTrue (from_to 1 4 k.0)
 unfolding consumers_in
 consumers_in-ok line k e =
-    let a = bind_ok (due_in (codes "consumers") line) (λ words. both_of words >>= λ both. app_in both.1 >>= λ app. number_in (from_to 1 4) both.0 >>= λ count. Ok (count, app)) k e in
-    let b = bind_ok (both_of a.0) (λ both. app_in both.1 >>= λ app. number_in (from_to 1 4) both.0 >>= λ count. Ok (count, app)) k a.2 in
-    let x = bind_ok (app_in b.0.1) (λ app. number_in (from_to 1 4) b.0.0 >>= λ count. Ok (count, app)) k b.2 in
-    let n = bind_ok (number_in (from_to 1 4) b.0.0) (λ count. Ok (count, x.0)) k x.2 in
+    let a = bind_ok (due_in (codes "consumers") line) (λ words. both_of words >>= λ both. app_in both.1 >>= λ app. number_where (from_to 1 4) both.0 >>= λ count. Ok (count, app)) k e in
+    let b = bind_ok (both_of a.0) (λ both. app_in both.1 >>= λ app. number_where (from_to 1 4) both.0 >>= λ count. Ok (count, app)) k a.2 in
+    let x = bind_ok (app_in b.0.1) (λ app. number_where (from_to 1 4) b.0.0 >>= λ count. Ok (count, app)) k b.2 in
+    let n = bind_ok (number_where (from_to 1 4) b.0.0) (λ count. Ok (count, x.0)) k x.2 in
     let d = due_in-ok (codes "consumers") line a.0 a.1 in
-    let s = number_in-ok (from_to 1 4) b.0.0 n.0 n.1 in
+    let s = number_where_ok (from_to 1 4) b.0.0 n.0 n.1 in
     let words : words_of line ≡ codes "consumers" ∷ b.0.0 ∷ app_name x.0 ∷ [] =
     d.1 ∙ (ap (λ (ws : List (List ℕ)). codes "consumers" ∷ ws) (both_of-ok a.0 b.0 b.1) ∙ ap (λ (w : List ℕ). codes "consumers" ∷ b.0.0 ∷ w ∷ []) (app_in-ok b.0.1 x.0 x.1)) in
     let P : ℕ × AppKind → Type 0 = λ q. IsTrue (is_printable line) × SpellsConsumers line q.0 q.1 × IsTrue (from_to 1 4 q.0) in
@@ -199,4 +199,4 @@ pub consumers_in-back : (line : List ℕ) (consumers : ℕ) (app : AppKind) → 
     → IsTrue (from_to 1 4 consumers) → consumers_in line ≡ Ok (consumers, app)
 unfolding consumers_in
 consumers_in-back line consumers app p s w =
-    rw (due_in-back (codes "consumers") line (s.0 ∷ app_name app ∷ []) p s.1, app_in-back app, number_in-back (from_to 1 4) s.0 consumers s.2 w) refl
+    rw (due_in-back (codes "consumers") line (s.0 ∷ app_name app ∷ []) p s.1, app_in-back app, number_where_back (from_to 1 4) s.0 consumers s.2 w) refl

@@ -13,8 +13,8 @@ use Rattle.script_text.specs.Names.commands
 use Rattle.script_text.specs.Names.kinds
 use Rattle.script_text.specs.Words.{is_printable, words_of, is_word, SpellsDecimal}
 use Rattle.script_text.specs.Spelled.{SpellsWindow, SpellsSubmit, SpellsCommand, SpellsInput}
-use Rattle.script_text.specs.Judged.{Judged, from_to, number_in, number_below, node_in, first_of, only_of, both_of, window_of, body_in, of_both, submit_of, message_of, of_message, drain_of, only_node_of, of_node, table_of, remove_of, form_of, body_of, input_in}
-use Rattle.script_text.proofs.NumberLemmas.{first_of-ok, only_of-ok, both_of-ok, is_word-same, number_in-ok, number_in-back, number_below-ok, number_below-back, from_to-is, from_to-true}
+use Rattle.script_text.specs.Judged.{Judged, from_to, number_where, number_below, node_in, first_of, only_of, both_of, window_of, body_in, of_both, submit_of, message_of, of_message, drain_of, only_node_of, of_node, table_of, remove_of, form_of, body_of, input_in}
+use Rattle.script_text.proofs.NumberLemmas.{first_of-ok, only_of-ok, both_of-ok, is_word-same, number_where_ok, number_where_back, number_below-ok, number_below-back, from_to-is, from_to-true}
 use Rattle.script_text.proofs.NodeLemmas.{node_in-ok, among-nodes, among-sequencers, node-found, sequencer-found}
 use Rattle.script_text.proofs.RowSpelled.{window_of-ok, window_of-back}
 use Rattle.script_text.proofs.SubmitLemmas.{submit-ok, submit-back}
@@ -71,8 +71,8 @@ submitted c line words input b e =
 message_of-ok : (words : List (List ℕ)) (n : ℕ) → message_of words ≡ Ok n → (word : List ℕ) × (words ≡ word ∷ []) × SpellsDecimal word n
 unfolding message_of
 message_of-ok words n e =
-    let w = bind_ok (only_of words) (λ word. number_in (λ _. true) word) n e in
-    (w.0, only_of-ok words w.0 w.1, (number_in-ok (λ _. true) w.0 n w.2).0)
+    let w = bind_ok (only_of words) (λ word. number_where (λ _. true) word) n e in
+    (w.0, only_of-ok words w.0 w.1, (number_where_ok (λ _. true) w.0 n w.2).0)
 
 of_message-ok : (make : ℕ → Input) (words : List (List ℕ)) (input : Input) → of_message make words ≡ Ok input
     → (n : ℕ) × (word : List ℕ) × (words ≡ word ∷ []) × SpellsDecimal word n × (make n ≡ input)
@@ -98,9 +98,9 @@ drain_of-ok : (c : Config) (line : List ℕ) (words : List (List ℕ)) (input : 
     → Holds c line input
 unfolding drain_of
 drain_of-ok c line words input b e =
-    let w = bind_ok (only_of words) (λ word. number_in (from_to 0 200000) word >>= λ count. Ok (inputs.Drain count)) input e in
-    let n = bind_ok (number_in (from_to 0 200000) w.0) (λ count. Ok (inputs.Drain count)) input w.2 in
-    let s = number_in-ok (from_to 0 200000) w.0 n.0 n.1 in
+    let w = bind_ok (only_of words) (λ word. number_where (from_to 0 200000) word >>= λ count. Ok (inputs.Drain count)) input e in
+    let n = bind_ok (number_where (from_to 0 200000) w.0) (λ count. Ok (inputs.Drain count)) input w.2 in
+    let s = number_where_ok (from_to 0 200000) w.0 n.0 n.1 in
     subst (Holds c line) (ok_is ScriptKind (inputs.Drain n.0) input n.2) (((w.0, after line (codes "drain") words (w.0 ∷ []) b (only_of-ok words w.0 w.1), s.0), (from_to-is 0 200000 n.0 s.1).1), tt)
 
 -- ---- nodes
@@ -269,7 +269,7 @@ spelled c line words input p w f = rw (p, w) f
 
 any_number : (word : List ℕ) (n : ℕ) → SpellsDecimal word n → message_of (word ∷ []) ≡ Ok n
 unfolding message_of
-any_number word n s = number_in-back (λ _. true) word n s refl
+any_number word n s = number_where_back (λ _. true) word n s refl
 
 pub submit_back : (count : ℕ) (bytes word : List ℕ) (words : List (List ℕ)) (number : ℕ) (body : List ℕ) → SpellsDecimal word number → number < count
     → bytes ≡ body → IsBody body → submit_of count bytes (word ∷ words) ≡ Ok (number, body)
@@ -284,7 +284,7 @@ message_back make word n s = rw (any_number word n s) refl
 
 drain_back : (word : List ℕ) (n : ℕ) → SpellsDecimal word n → n ≤ 200000 → drain_of (word ∷ []) ≡ Ok (inputs.Drain n)
 unfolding drain_of
-drain_back word n s h = rw (number_in-back (from_to 0 200000) word n s (from_to-true 0 200000 n (omega arith) h)) refl
+drain_back word n s h = rw (number_where_back (from_to 0 200000) word n s (from_to-true 0 200000 n (omega arith) h)) refl
 
 pub node_back : {A : Type 0} (c : Config) (make : NodeId → A) (node : NodeId) → IsNodeOf c node → of_node make c (node_name node ∷ []) ≡ Ok (make node)
 unfolding of_node only_node_of

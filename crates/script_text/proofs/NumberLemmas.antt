@@ -9,7 +9,7 @@ use Rattle.script_text.specs.Names.{ScriptKind}
 use Rattle.script_text.specs.Names.kinds
 use Rattle.script_text.specs.Words.{is_printable, words_of, is_word, is_decimal, value_of, SpellsDecimal}
 use Rattle.script_text.specs.Spelled.{SpellsNumber}
-use Rattle.script_text.specs.Judged.{Judged, each, from_to, number_in, number_below, first_of, only_of, both_of, after_due, due_in}
+use Rattle.script_text.specs.Judged.{Judged, each, from_to, number_where, number_below, first_of, only_of, both_of, after_due, due_in}
 
 -- ---- words
 
@@ -57,32 +57,32 @@ due_in-back due line rest p words = rw (p, words, is_word-itself due) refl
 
 -- ---- numbers
 
-number_ok : (within : ℕ → Bool) (word : List ℕ) (n : ℕ) (a b : Bool) → is_decimal word ≡ a → within (value_of word) ≡ b → number_in within word ≡ Ok n
+number_ok : (within : ℕ → Bool) (word : List ℕ) (n : ℕ) (a b : Bool) → is_decimal word ≡ a → within (value_of word) ≡ b → number_where within word ≡ Ok n
     → SpellsDecimal word n × IsTrue (within n)
-unfolding number_in
+unfolding number_where
 number_ok within word n false b d w e = let bad = rw d at e in absurd cc
 number_ok within word n true false d w e = let bad = rw (d, w) at e in absurd cc
 number_ok within word n true true d w e =
     let n_is : value_of word ≡ n = ok_is ScriptKind (value_of word) n (rw (d, w) at e) in
     ((d, sym n_is), subst (λ (k : ℕ). within k ≡ true) n_is w)
 
-pub number_in-ok : (within : ℕ → Bool) (word : List ℕ) (n : ℕ) → number_in within word ≡ Ok n → SpellsDecimal word n × IsTrue (within n)
-number_in-ok within word n e = number_ok within word n (is_decimal word) (within (value_of word)) refl refl e
+pub number_where_ok : (within : ℕ → Bool) (word : List ℕ) (n : ℕ) → number_where within word ≡ Ok n → SpellsDecimal word n × IsTrue (within n)
+number_where_ok within word n e = number_ok within word n (is_decimal word) (within (value_of word)) refl refl e
 
-pub number_in-back : (within : ℕ → Bool) (word : List ℕ) (n : ℕ) → SpellsDecimal word n → IsTrue (within n) → number_in within word ≡ Ok n
-unfolding number_in
-number_in-back within word n s w =
+pub number_where_back : (within : ℕ → Bool) (word : List ℕ) (n : ℕ) → SpellsDecimal word n → IsTrue (within n) → number_where within word ≡ Ok n
+unfolding number_where
+number_where_back within word n s w =
     let here : within (value_of word) ≡ true = subst (λ (k : ℕ). within k ≡ true) s.1 w in
     rw (s.0, here) (ap Ok (sym s.1))
 
 pub number_below-ok : (limit : ℕ) (word : List ℕ) (n : ℕ) → number_below limit word ≡ Ok n → SpellsDecimal word n × (n < limit)
 unfolding number_below
 number_below-ok limit word n e =
-    let s = number_in-ok (λ n. nat_lt n limit) word n e in (s.0, grind (arith, nat_tests, s.1))
+    let s = number_where_ok (λ n. nat_lt n limit) word n e in (s.0, grind (arith, nat_tests, s.1))
 
 pub number_below-back : (limit : ℕ) (word : List ℕ) (n : ℕ) → SpellsDecimal word n → n < limit → number_below limit word ≡ Ok n
 unfolding number_below
-number_below-back limit word n s h = number_in-back (λ n. nat_lt n limit) word n s (grind (arith, nat_tests))
+number_below-back limit word n s h = number_where_back (λ n. nat_lt n limit) word n s (grind (arith, nat_tests))
 
 pub from_to-is : (least most n : ℕ) → IsTrue (from_to least most n) → (least ≤ n) × (n ≤ most)
 from_to-is least most n e = (grind (arith, nat_tests), grind (arith, nat_tests))
@@ -92,20 +92,20 @@ from_to-true least most n low high = grind (arith, nat_tests)
 
 -- a line of the due word and a number
 abbrev pub due_number : List ℕ → (ℕ → Bool) → List ℕ → Judged ℕ
-due_number due within line = due_in due line >>= λ words. only_of words >>= λ word. number_in within word
+due_number due within line = due_in due line >>= λ words. only_of words >>= λ word. number_where within word
 
 pub due_number-ok : (due : List ℕ) (within : ℕ → Bool) (line : List ℕ) (n : ℕ) → due_number due within line ≡ Ok n
     → IsTrue (is_printable line) × SpellsNumber due (words_of line) n × IsTrue (within n)
 due_number-ok due within line n e =
-    let a = bind_ok (due_in due line) (λ words. only_of words >>= λ word. number_in within word) n e in
-    let b = bind_ok (only_of a.0) (λ word. number_in within word) n a.2 in
+    let a = bind_ok (due_in due line) (λ words. only_of words >>= λ word. number_where within word) n e in
+    let b = bind_ok (only_of a.0) (λ word. number_where within word) n a.2 in
     let d = due_in-ok due line a.0 a.1 in
-    let s = number_in-ok within b.0 n b.2 in
+    let s = number_where_ok within b.0 n b.2 in
     (d.0, (b.0, d.1 ∙ ap (λ (ws : List (List ℕ)). due ∷ ws) (only_of-ok a.0 b.0 b.1), s.0), s.1)
 
 pub due_number-back : (due : List ℕ) (within : ℕ → Bool) (line : List ℕ) (n : ℕ) → IsTrue (is_printable line) → SpellsNumber due (words_of line) n
     → IsTrue (within n) → due_number due within line ≡ Ok n
-due_number-back due within line n p s w = rw (due_in-back due line (s.0 ∷ []) p s.1) (number_in-back within s.0 n s.2 w)
+due_number-back due within line n p s w = rw (due_in-back due line (s.0 ∷ []) p s.1) (number_where_back within s.0 n s.2 w)
 
 -- ---- several words
 

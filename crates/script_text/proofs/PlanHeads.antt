@@ -10,9 +10,9 @@ use Rattle.script_text.specs.Names.kinds
 use Rattle.script_text.specs.declared.plan_head.Faults.{Faults}
 use Rattle.script_text.specs.Words.{is_printable, words_of, SpellsDecimal}
 use Rattle.script_text.specs.SpelledPlans.{SpellsNumbers}
-use Rattle.script_text.specs.Judged.{Judged, each, from_to, number_in, number_below, first_of, both_of, due_in}
+use Rattle.script_text.specs.Judged.{Judged, each, from_to, number_where, number_below, first_of, both_of, due_in}
 use Rattle.script_text.specs.JudgedPlans.{few_of, readers_in, submitters_in, percent_in, whole_of, faults_of, faults_in, limits_in}
-use Rattle.script_text.proofs.NumberLemmas.{first_of-ok, both_of-ok, due_in-ok, due_in-back, number_in-ok, number_in-back, number_below-ok, number_below-back, from_to-is, from_to-true, each-ok, each-back}
+use Rattle.script_text.proofs.NumberLemmas.{first_of-ok, both_of-ok, due_in-ok, due_in-back, number_where_ok, number_where_back, number_below-ok, number_below-back, from_to-is, from_to-true, each-ok, each-back}
 
 -- ---- readers and submitters
 
@@ -93,11 +93,11 @@ submitters_in-back limit line ns p s h few = few_line-back (codes "submitters") 
 
 percent_in-ok : (word : List ℕ) (n : ℕ) → percent_in word ≡ Ok n → SpellsDecimal word n
 unfolding percent_in
-percent_in-ok word n e = (number_in-ok (from_to 0 100) word n e).0
+percent_in-ok word n e = (number_where_ok (from_to 0 100) word n e).0
 
 percent_in-back : (word : List ℕ) (n : ℕ) → SpellsDecimal word n → n ≤ 100 → percent_in word ≡ Ok n
 unfolding percent_in
-percent_in-back word n s h = number_in-back (from_to 0 100) word n s (from_to-true 0 100 n (omega arith) h)
+percent_in-back word n s h = number_where_back (from_to 0 100) word n s (from_to-true 0 100 n (omega arith) h)
 
 abbrev pub total : Faults → ℕ
 total f = f.lose + f.repeat + f.late + f.cut
@@ -121,7 +121,7 @@ faults_are seed lose repeated late cut = record { seed = seed; lose = lose; repe
 -- the numbers of the five words
 abbrev from_numbers : List ℕ → List ℕ → List ℕ → List ℕ → List ℕ → Judged Faults
 from_numbers w1 w2 w3 w4 w5 =
-    number_in (from_to 0 4294967295) w1 >>= λ seed. percent_in w2 >>= λ lose. percent_in w3 >>= λ repeated. percent_in w4 >>= λ late. percent_in w5 >>= λ cut. whole_of (faults_are seed lose repeated late cut)
+    number_where (from_to 0 4294967295) w1 >>= λ seed. percent_in w2 >>= λ lose. percent_in w3 >>= λ repeated. percent_in w4 >>= λ late. percent_in w5 >>= λ cut. whole_of (faults_are seed lose repeated late cut)
 
 record SpellsFaults (w1 w2 w3 w4 w5 : List ℕ) (f : Faults) : Type 0 where
   seed : SpellsDecimal w1 f.seed
@@ -133,13 +133,13 @@ record SpellsFaults (w1 w2 w3 w4 w5 : List ℕ) (f : Faults) : Type 0 where
 
 from_numbers-ok : (w1 w2 w3 w4 w5 : List ℕ) (f : Faults) → from_numbers w1 w2 w3 w4 w5 ≡ Ok f → SpellsFaults w1 w2 w3 w4 w5 f × (total f ≤ 100)
 from_numbers-ok w1 w2 w3 w4 w5 f e =
-    let n1 = bind_ok (number_in (from_to 0 4294967295) w1) (λ seed. percent_in w2 >>= λ lose. percent_in w3 >>= λ repeated. percent_in w4 >>= λ late. percent_in w5 >>= λ cut. whole_of (faults_are seed lose repeated late cut)) f e in
+    let n1 = bind_ok (number_where (from_to 0 4294967295) w1) (λ seed. percent_in w2 >>= λ lose. percent_in w3 >>= λ repeated. percent_in w4 >>= λ late. percent_in w5 >>= λ cut. whole_of (faults_are seed lose repeated late cut)) f e in
     let n2 = bind_ok (percent_in w2) (λ lose. percent_in w3 >>= λ repeated. percent_in w4 >>= λ late. percent_in w5 >>= λ cut. whole_of (faults_are n1.0 lose repeated late cut)) f n1.2 in
     let n3 = bind_ok (percent_in w3) (λ repeated. percent_in w4 >>= λ late. percent_in w5 >>= λ cut. whole_of (faults_are n1.0 n2.0 repeated late cut)) f n2.2 in
     let n4 = bind_ok (percent_in w4) (λ late. percent_in w5 >>= λ cut. whole_of (faults_are n1.0 n2.0 n3.0 late cut)) f n3.2 in
     let n5 = bind_ok (percent_in w5) (λ cut. whole_of (faults_are n1.0 n2.0 n3.0 n4.0 cut)) f n4.2 in
     let end = whole_of-ok (faults_are n1.0 n2.0 n3.0 n4.0 n5.0) f n5.2 in
-    let s = number_in-ok (from_to 0 4294967295) w1 n1.0 n1.1 in (
+    let s = number_where_ok (from_to 0 4294967295) w1 n1.0 n1.1 in (
       subst (SpellsFaults w1 w2 w3 w4 w5) end.0 (record {
         seed = s.0;
         lose = percent_in-ok w2 n2.0 n2.1;
@@ -212,7 +212,7 @@ faults_in-back line f p (w1 ∷ w2 ∷ w3 ∷ w4 ∷ w5 ∷ [], words_are, z) se
     let fits : nat_lt 100 (total f) ≡ false = grind (arith, nat_tests, few) in
     rw (
       due_in-back (codes "faults") line (w1 ∷ w2 ∷ w3 ∷ w4 ∷ w5 ∷ []) p words_are,
-      number_in-back (from_to 0 4294967295) w1 f.seed z.0 (from_to-true 0 4294967295 f.seed (omega arith) (omega (arith, seed))),
+      number_where_back (from_to 0 4294967295) w1 f.seed z.0 (from_to-true 0 4294967295 f.seed (omega arith) (omega (arith, seed))),
       percent_in-back w2 f.lose z.1.0 (omega (arith, few)),
       percent_in-back w3 f.repeat z.1.1.0 (omega (arith, few)),
       percent_in-back w4 f.late z.1.1.1.0 (omega (arith, few)),
@@ -226,13 +226,13 @@ pub limits_in-ok : (line : List ℕ) (k : ℕ × ℕ) → limits_in line ≡ Ok 
     → IsTrue (is_printable line) × SpellsNumbers (codes "drain") (words_of line) (k.0 ∷ k.1 ∷ []) × (k.0 ≤ 200000) × (k.1 ≤ 10000)
 unfolding limits_in
 limits_in-ok line k e =
-    let a = bind_ok (due_in (codes "drain") line) (λ words. both_of words >>= λ both. number_in (from_to 0 200000) both.0 >>= λ limit. number_in (from_to 0 10000) both.1 >>= λ settle. Ok (limit, settle)) k e in
-    let b = bind_ok (both_of a.0) (λ both. number_in (from_to 0 200000) both.0 >>= λ limit. number_in (from_to 0 10000) both.1 >>= λ settle. Ok (limit, settle)) k a.2 in
-    let m = bind_ok (number_in (from_to 0 200000) b.0.0) (λ limit. number_in (from_to 0 10000) b.0.1 >>= λ settle. Ok (limit, settle)) k b.2 in
-    let n = bind_ok (number_in (from_to 0 10000) b.0.1) (λ settle. Ok (m.0, settle)) k m.2 in
+    let a = bind_ok (due_in (codes "drain") line) (λ words. both_of words >>= λ both. number_where (from_to 0 200000) both.0 >>= λ limit. number_where (from_to 0 10000) both.1 >>= λ settle. Ok (limit, settle)) k e in
+    let b = bind_ok (both_of a.0) (λ both. number_where (from_to 0 200000) both.0 >>= λ limit. number_where (from_to 0 10000) both.1 >>= λ settle. Ok (limit, settle)) k a.2 in
+    let m = bind_ok (number_where (from_to 0 200000) b.0.0) (λ limit. number_where (from_to 0 10000) b.0.1 >>= λ settle. Ok (limit, settle)) k b.2 in
+    let n = bind_ok (number_where (from_to 0 10000) b.0.1) (λ settle. Ok (m.0, settle)) k m.2 in
     let d = due_in-ok (codes "drain") line a.0 a.1 in
-    let s = number_in-ok (from_to 0 200000) b.0.0 m.0 m.1 in
-    let t = number_in-ok (from_to 0 10000) b.0.1 n.0 n.1 in
+    let s = number_where_ok (from_to 0 200000) b.0.0 m.0 m.1 in
+    let t = number_where_ok (from_to 0 10000) b.0.1 n.0 n.1 in
     let words_are : words_of line ≡ codes "drain" ∷ b.0.0 ∷ b.0.1 ∷ [] = d.1 ∙ ap (λ (ws : List (List ℕ)). codes "drain" ∷ ws) (both_of-ok a.0 b.0 b.1) in
     let P : ℕ × ℕ → Type 0 = λ q. IsTrue (is_printable line) × SpellsNumbers (codes "drain") (words_of line) (q.0 ∷ q.1 ∷ []) × (q.0 ≤ 200000) × (q.1 ≤ 10000) in
     subst P (ok_is ScriptKind (m.0, n.0) k n.2)
@@ -247,6 +247,6 @@ limits_in-back line limit settle p (w1 ∷ w2 ∷ w3 ∷ ws, words_are, z) h k =
 limits_in-back line limit settle p (w1 ∷ w2 ∷ [], words_are, z) h k =
     rw (
       due_in-back (codes "drain") line (w1 ∷ w2 ∷ []) p words_are,
-      number_in-back (from_to 0 200000) w1 limit z.0 (from_to-true 0 200000 limit (omega arith) h),
-      number_in-back (from_to 0 10000) w2 settle z.1.0 (from_to-true 0 10000 settle (omega arith) k),
+      number_where_back (from_to 0 200000) w1 limit z.0 (from_to-true 0 200000 limit (omega arith) h),
+      number_where_back (from_to 0 10000) w2 settle z.1.0 (from_to-true 0 10000 settle (omega arith) k),
     ) refl

@@ -13,9 +13,9 @@ use Rattle.script_text.specs.Names.kinds
 use Rattle.script_text.specs.Words.{is_printable, words_of, is_word, SpellsDecimal}
 use Rattle.script_text.specs.Spelled.{SpellsSubmit}
 use Rattle.script_text.specs.SpelledPlans.{SpellsPlanLine}
-use Rattle.script_text.specs.Judged.{Judged, from_to, number_in, only_of, of_both, submit_of, of_node, table_of, remove_of, body_of}
+use Rattle.script_text.specs.Judged.{Judged, from_to, number_where, only_of, of_both, submit_of, of_node, table_of, remove_of, body_of}
 use Rattle.script_text.specs.JudgedPlans.{episode_of, plan_form_of, plan_line_in}
-use Rattle.script_text.proofs.NumberLemmas.{only_of-ok, number_in-ok, number_in-back, from_to-is, from_to-true}
+use Rattle.script_text.proofs.NumberLemmas.{only_of-ok, number_where_ok, number_where_back, from_to-is, from_to-true}
 use Rattle.script_text.proofs.RowLemmas.{and_left, and_right}
 use Rattle.script_text.proofs.SubmitLemmas.{submit-back}
 use Rattle.script_text.proofs.InputSpelled.{Begins, begins, IsTold, of_both-ok, submit_of-ok, of_node-ok, table_of-ok, remove_of-ok, submit_back, node_back, table_back, remove_back}
@@ -58,9 +58,9 @@ episode-ok : (p : Plan) (line : List ℕ) (words : List (List ℕ)) (out : PlanL
     → Holds p line out
 unfolding episode_of
 episode-ok p line words out b e =
-    let w = bind_ok (only_of words) (λ word. number_in (from_to 1 2000) word >>= λ turns. Ok (plan_lines.Episode turns)) out e in
-    let n = bind_ok (number_in (from_to 1 2000) w.0) (λ turns. Ok (plan_lines.Episode turns)) out w.2 in
-    let s = number_in-ok (from_to 1 2000) w.0 n.0 n.1 in
+    let w = bind_ok (only_of words) (λ word. number_where (from_to 1 2000) word >>= λ turns. Ok (plan_lines.Episode turns)) out e in
+    let n = bind_ok (number_where (from_to 1 2000) w.0) (λ turns. Ok (plan_lines.Episode turns)) out w.2 in
+    let s = number_where_ok (from_to 1 2000) w.0 n.0 n.1 in
     let words_are : words_of line ≡ codes "episode" ∷ w.0 ∷ [] = b ∙ ap (λ (ws : List (List ℕ)). codes "episode" ∷ ws) (only_of-ok words w.0 w.1) in
     subst (Holds p line) (ok_is ScriptKind (plan_lines.Episode n.0) out n.2) ((w.0, words_are, s.0), from_to-is 1 2000 n.0 s.1)
 
@@ -147,7 +147,7 @@ spelled p line words out plain w f = rw (plain, w) f
 
 episode-back : (word : List ℕ) (turns : ℕ) → SpellsDecimal word turns → 1 ≤ turns → turns ≤ 2000 → episode_of (word ∷ []) ≡ Ok (plan_lines.Episode turns)
 unfolding episode_of
-episode-back word turns s some few = rw (number_in-back (from_to 1 2000) word turns s (from_to-true 1 2000 turns some few)) refl
+episode-back word turns s some few = rw (number_where_back (from_to 1 2000) word turns s (from_to-true 1 2000 turns some few)) refl
 
 pub plan_line_in-back : (p : Plan) (line : List ℕ) (out : PlanLine) → IsTrue (is_printable line) → SpellsPlanLine line out → IsValidLine p out
     → plan_line_in p line ≡ Ok out

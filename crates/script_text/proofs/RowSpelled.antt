@@ -15,9 +15,9 @@ use Rattle.script_text.specs.Names.{Asked, Row, ScriptKind, TableError}
 use Rattle.script_text.specs.Names.kinds
 use Rattle.script_text.specs.Words.{is_decimal, value_of, SpellsDecimal}
 use Rattle.script_text.specs.Spelled.{SpellsRow, SpellsWindow}
-use Rattle.script_text.specs.Judged.{each, from_to, number_in, asked_of, asked_in, rows_of, rows_in, window_of}
+use Rattle.script_text.specs.Judged.{each, from_to, number_where, asked_of, asked_in, rows_of, rows_in, window_of}
 use Rattle.script_text.proofs.RowLemmas.{is_colon, and_left, and_right, decimal_whole}
-use Rattle.script_text.proofs.NumberLemmas.{number_in-ok, number_in-back, from_to-is, from_to-true, each-ok, each-back}
+use Rattle.script_text.proofs.NumberLemmas.{number_where_ok, number_where_back, from_to-is, from_to-true, each-ok, each-back}
 use Rattle.script_text.proofs.TableLemmas.{IsTable-from_asked, table_fault-none}
 
 -- a row that was asked for, of a cluster with so many shards
@@ -141,9 +141,9 @@ pub window_of-ok : (shards : ℕ) (word : List ℕ) (words : List (List ℕ)) (w
     → SpellsWindow (word ∷ words) w.0 w.1 × AreRounds w.0 × IsTableOf shards w.1
 unfolding window_of
 window_of-ok shards word words w e =
-    let a = bind_ok (number_in (from_to 1 1024) word) (λ rounds. rows_in shards words >>= λ rows. Ok (rounds, rows)) w e in
+    let a = bind_ok (number_where (from_to 1 1024) word) (λ rounds. rows_in shards words >>= λ rows. Ok (rounds, rows)) w e in
     let b = bind_ok (rows_in shards words) (λ rows. Ok (a.0, rows)) w a.2 in
-    let n = number_in-ok (from_to 1 1024) word a.0 a.1 in
+    let n = number_where_ok (from_to 1 1024) word a.0 a.1 in
     let r = rows_in-ok shards words b.0 b.1 in
     let P : ℕ × List Row → Type 0 = λ x. SpellsWindow (word ∷ words) x.0 x.1 × AreRounds x.0 × IsTableOf shards x.1 in
     subst P (ok_is ScriptKind (a.0, b.0) w b.2) ((word, words, refl, n.0, r.0), from_to-is 1 1024 a.0 n.1, r.1)
@@ -152,4 +152,4 @@ pub window_of-back : (shards : ℕ) (word : List ℕ) (words : List (List ℕ)) 
     → AllZip SpellsRow words rows → AreRounds rounds → IsTableOf shards rows → window_of shards word words ≡ Ok (rounds, rows)
 unfolding window_of
 window_of-back shards word words rounds rows n z k t =
-    rw (number_in-back (from_to 1 1024) word rounds n (from_to-true 1 1024 rounds k.0 k.1), rows_in-back shards words rows z t) refl
+    rw (number_where_back (from_to 1 1024) word rounds n (from_to-true 1 1024 rounds k.0 k.1), rows_in-back shards words rows z t) refl

@@ -38,15 +38,15 @@ abbrev pub from_to : ℕ → ℕ → ℕ → Bool
 from_to least most n = nat_le least n && nat_le n most
 
 -- a number, and a test of its bounds
-unfoldable pub number_in : (ℕ → Bool) → List ℕ → Judged ℕ
-number_in within word =
+unfoldable pub number_where : (ℕ → Bool) → List ℕ → Judged ℕ
+number_where within word =
     if not (is_decimal word) then Err kinds.Number
     else if within (value_of word) then Ok (value_of word)
     else Err kinds.Range
 
 -- a number below a limit
 unfoldable pub number_below : ℕ → List ℕ → Judged ℕ
-number_below limit word = number_in (λ n. nat_lt n limit) word
+number_below limit word = number_where (λ n. nat_lt n limit) word
 
 -- the name of one of the nodes
 unfoldable pub node_in : List NodeId → List ℕ → Judged NodeId
@@ -78,7 +78,7 @@ rows_in shards words = do
 -- a number of rounds, and rows
 unfoldable pub window_of : ℕ → List ℕ → List (List ℕ) → Judged (ℕ × List Row)
 window_of shards word words = do
-  rounds ← number_in (from_to 1 1024) word
+  rounds ← number_where (from_to 1 1024) word
   rows ← rows_in shards words
   Ok (rounds, rows)
 
@@ -132,13 +132,13 @@ unfoldable pub seqs_in : List ℕ → Judged ℕ
 seqs_in line = do
   words ← due_in (codes "seqs") line
   word ← only_of words
-  number_in is_majority_size word
+  number_where is_majority_size word
 
 unfoldable pub shards_in : List ℕ → Judged ℕ
 shards_in line = do
   words ← due_in (codes "shards") line
   word ← only_of words
-  number_in (from_to 1 6) word
+  number_where (from_to 1 6) word
 
 unfoldable pub window_in : ℕ → List ℕ → Judged (ℕ × List Row)
 window_in shards line = do
@@ -149,7 +149,7 @@ window_in shards line = do
 -- 1 to 6 homes, each the shard of a row
 unfoldable pub homes_of : List Row → List (List ℕ) → Judged (List ℕ)
 homes_of rows words =
-    if from_to 1 6 (length words) then each (number_in (λ home. has_shard home rows)) words else Err kinds.Word
+    if from_to 1 6 (length words) then each (number_where (λ home. has_shard home rows)) words else Err kinds.Word
 
 unfoldable pub clients_in : List Row → List ℕ → Judged (List ℕ)
 clients_in rows line = do
@@ -166,7 +166,7 @@ consumers_in line = do
   words ← due_in (codes "consumers") line
   both ← both_of words
   app ← app_in both.1
-  count ← number_in (from_to 1 4) both.0
+  count ← number_where (from_to 1 4) both.0
   Ok (count, app)
 
 -- ---- what lines of scripts and of plans have alike
@@ -223,7 +223,7 @@ remove_of c words = do
 unfoldable pub message_of : List (List ℕ) → Judged ℕ
 message_of words = do
   word ← only_of words
-  number_in (λ _. true) word
+  number_where (λ _. true) word
 
 -- an input that names a message alone
 unfoldable pub of_message : (ℕ → Input) → List (List ℕ) → Judged Input
@@ -234,7 +234,7 @@ of_message make words = do
 unfoldable pub drain_of : List (List ℕ) → Judged Input
 drain_of words = do
   word ← only_of words
-  count ← number_in (from_to 0 200000) word
+  count ← number_where (from_to 0 200000) word
   Ok (inputs.Drain count)
 
 -- by the first word; the words after it, and what would be the body

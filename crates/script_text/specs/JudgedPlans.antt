@@ -6,7 +6,7 @@ use Rattle.script_text.specs.Names.plan_lines
 use Rattle.script_text.specs.Names.kinds
 use Rattle.script_text.specs.declared.plan_head.Faults.{Faults}
 use Rattle.script_text.specs.Words.{is_printable, words_of, is_word}
-use Rattle.script_text.specs.Judged.{Judged, each, from_to, number_in, number_below, first_of, only_of, both_of, due_in, of_both, submit_of, of_node, table_of, remove_of, body_of}
+use Rattle.script_text.specs.Judged.{Judged, each, from_to, number_where, number_below, first_of, only_of, both_of, due_in, of_both, submit_of, of_node, table_of, remove_of, body_of}
 
 -- ---- the rest of the head
 
@@ -28,7 +28,7 @@ submitters_in clients line = do
 
 -- a percentage by itself
 unfoldable pub percent_in : List ℕ → Judged ℕ
-percent_in word = number_in (from_to 0 100) word
+percent_in word = number_where (from_to 0 100) word
 
 -- the four percentages together, after all words
 abbrev pub whole_of : Faults → Judged Faults
@@ -41,7 +41,7 @@ faults_of words = do
   second ← first_of first.1
   third ← first_of second.1
   last ← both_of third.1
-  seed ← number_in (from_to 0 4294967295) first.0
+  seed ← number_where (from_to 0 4294967295) first.0
   lose ← percent_in second.0
   repeat ← percent_in third.0
   late ← percent_in last.0
@@ -58,8 +58,8 @@ unfoldable pub limits_in : List ℕ → Judged (ℕ × ℕ)
 limits_in line = do
   words ← due_in (codes "drain") line
   both ← both_of words
-  limit ← number_in (from_to 0 200000) both.0
-  settle ← number_in (from_to 0 10000) both.1
+  limit ← number_where (from_to 0 200000) both.0
+  settle ← number_where (from_to 0 10000) both.1
   Ok (limit, settle)
 
 -- ---- the lines after the head
@@ -67,7 +67,7 @@ limits_in line = do
 unfoldable pub episode_of : List (List ℕ) → Judged PlanLine
 episode_of words = do
   word ← only_of words
-  turns ← number_in (from_to 1 2000) word
+  turns ← number_where (from_to 1 2000) word
   Ok (plan_lines.Episode turns)
 
 -- by the first word; a cluster, how many submitters there are, what would be the body, and the words

@@ -2,7 +2,7 @@
 
 ghost use Rattle.std.specs.Prelude.{◌≡◌, ◌≤◌, ◌<◌, ◌^◌, true, Some, None, if◌then◌else◌, IfSome, IfOk};
 ghost use Rattle.script_text.specs.Words.{is_decimal, value_of};
-ghost use Rattle.script_text.specs.Judged.{number_in, number_below, from_to};
+ghost use Rattle.script_text.specs.Judged.{number_where, number_below, from_to};
 
 use crate::kind::ScriptKind;
 use record_codec::decimal::number as read;
@@ -20,9 +20,9 @@ pub(crate) fn decimal(word: &[u8]) -> Option<u64>
 }
 
 /// Any number.
-#[tactic(auto, unfolding(crate::specs::Judged::number_in))]
+#[tactic(auto, unfolding(crate::specs::Judged::number_where))]
 pub(crate) fn number(word: &[u8]) -> Result<u64, ScriptKind>
-    ensures { result ≡ number_in (λ _. true) word.now }
+    ensures { result ≡ number_where (λ _. true) word.now }
 {
     match decimal(word) {
         Some(value) => Ok(value),
@@ -31,9 +31,9 @@ pub(crate) fn number(word: &[u8]) -> Result<u64, ScriptKind>
 }
 
 /// A number from `least` to `most`.
-#[tactic(auto, unfolding(crate::specs::Judged::number_in))]
+#[tactic(auto, unfolding(crate::specs::Judged::number_where))]
 pub(crate) fn number_within(word: &[u8], least: u64, most: u64) -> Result<u64, ScriptKind>
-    ensures judged { result ≡ number_in (from_to least most) word.now }
+    ensures judged { result ≡ number_where (from_to least most) word.now }
     ensures most { IfOk result (λ n. n ≤ most) }
 {
     match decimal(word) {
@@ -44,7 +44,7 @@ pub(crate) fn number_within(word: &[u8], least: u64, most: u64) -> Result<u64, S
 }
 
 /// A number below `limit`.
-#[tactic(auto, unfolding(crate::specs::Judged::number_in, crate::specs::Judged::number_below))]
+#[tactic(auto, unfolding(crate::specs::Judged::number_where, crate::specs::Judged::number_below))]
 pub(crate) fn number_below(word: &[u8], limit: u64) -> Result<u64, ScriptKind>
     ensures judged { result ≡ number_below limit word.now }
     ensures below { IfOk result (λ n. n < limit) }

@@ -2,7 +2,7 @@
 
 ghost use Rattle.std.specs.Prelude.{◌≡◌, length};
 ghost use Rattle.script_text.specs.Words.{words_of};
-ghost use Rattle.script_text.specs.Judged.{each, number_in, is_majority_size, version_of, version_in, seqs_in, shards_in, window_in, homes_of, clients_in, app_in, consumers_in};
+ghost use Rattle.script_text.specs.Judged.{each, number_where, is_majority_size, version_of, version_in, seqs_in, shards_in, window_in, homes_of, clients_in, app_in, consumers_in};
 ghost use Rattle.script_text.specs.Answers.{Tells, Says};
 ghost use Rattle.quota_table.specs.Rows.{has_shard, IsTable};
 
@@ -52,9 +52,9 @@ pub(crate) fn seqs_line(line: &[u8]) -> Result<u8, LineError>
     Ok(majority_size(word)?)
 }
 
-#[tactic(auto, unfolding(crate::specs::Judged::number_in))]
+#[tactic(auto, unfolding(crate::specs::Judged::number_where))]
 fn majority_size(word: &[u8]) -> Result<u8, ScriptKind>
-    ensures { result ≡ number_in is_majority_size word.now }
+    ensures { result ≡ number_where is_majority_size word.now }
 {
     match decimal(word) {
         Some(1) => Ok(1),
@@ -117,7 +117,7 @@ pub(crate) fn count_words(line: &[u8]) -> usize
 }
 
 fn each_home(alloc: Global, line: &[u8], table: &Table) -> Result<Homes, LineError>
-    ensures { Says result (each (number_in (λ home. has_shard home table.now)) (words_of line.now)) }
+    ensures { Says result (each (number_where (λ home. has_shard home table.now)) (words_of line.now)) }
 {
     let mut homes = Listed::new(alloc);
     let mut left = line;
@@ -129,9 +129,9 @@ fn each_home(alloc: Global, line: &[u8], table: &Table) -> Result<Homes, LineErr
 }
 
 /// The shard of a row.
-#[tactic(auto, unfolding(crate::specs::Judged::number_in))]
+#[tactic(auto, unfolding(crate::specs::Judged::number_where))]
 fn home(word: &[u8], table: &Table) -> Result<u8, ScriptKind>
-    ensures { result ≡ number_in (λ home. has_shard home table.now) word.now }
+    ensures { result ≡ number_where (λ home. has_shard home table.now) word.now }
 {
     match decimal(word) {
         Some(shard) if is_row(shard, table) => Ok(shard as u8),

@@ -30,7 +30,7 @@ fn promise_some(replica: &mut Replica, out: &mut Step) -> Done
 {
     while replica.own.promised < replica.own.durable {
         let promised = replica.own.promised;
-        let Some(position) = lease_of(replica, promised) else {
+        let Some(position) = leased_position(replica, promised) else {
             break;
         };
         promise_record(replica, position, promised, out)?;
@@ -40,7 +40,7 @@ fn promise_some(replica: &mut Replica, out: &mut Step) -> Done
 }
 
 /// The position that the known windows lease to a local.
-fn lease_of(replica: &Replica, local: u64) -> Option<u64>
+fn leased_position(replica: &Replica, local: u64) -> Option<u64>
     ensures { result ≡ leased (agreed_by replica.now.base) (number_of replica.now.base.me) local }
 {
     let lease = replica.base.known().leased(shard_of(replica), local)?;

@@ -1,10 +1,10 @@
 //! The nodes of a cluster, and how the one at a place takes a step.
 
-ghost use Rattle.std.specs.Prelude.{◌≡◌, false, map, slice_get, slice_set, All, IfOk, OnOk, IsSomeAnd};
+ghost use Rattle.std.specs.Prelude.{◌≡◌, map, slice_get, slice_set, All, IfOk, OnOk, IsSomeAnd};
 ghost use Rattle.msg_wire.specs.Steps.{IsValidStep};
 ghost use Rattle.msg_wire.specs.Valid.{IsValidConfig, IsNodeOf, IsValidMessage, IsValidEvent};
-ghost use Rattle.node_rules.specs.Turns.{empty_step};
-ghost use Rattle.world.specs.AnyNodes.{fresh_any, gives_any, leaves_any, is_spent_any};
+ghost use Rattle.world.specs.AnyNodes.{fresh_any, gives_any, leaves_any};
+ghost use Rattle.world.specs.inside.Kept.{IsReadyAt};
 ghost use Rattle.runs.specs.Names.events;
 
 use crate::any_node::AnyNode;
@@ -39,9 +39,8 @@ pub(crate) fn step_at(
     event: &Event,
     out: &mut Step,
 ) -> Result<(), OutOfMemory>
-    requires there { IsSomeAnd (slice_get made.old.items place) (λ node. is_spent_any node ≡ false) }
+    requires ready { IsReadyAt place made.old.items out.old }
     requires valid { IsValidEvent event.now }
-    requires empty { out.old ≡ empty_step }
     ensures gives { OnOk result (IsSomeAnd (slice_get made.old.items place) (λ node. out.new ≡ gives_any node event.now)) }
     ensures leaves { OnOk result (IsSomeAnd (slice_get made.old.items place) (λ node. made.new.items ≡ slice_set made.old.items place (leaves_any node event.now))) }
     ensures valid { OnOk result (IsValidStep out.new) }
@@ -58,9 +57,8 @@ pub(crate) fn deliver_at(
     message: &Message,
     out: &mut Step,
 ) -> Result<(), OutOfMemory>
-    requires there { IsSomeAnd (slice_get made.old.items place) (λ node. is_spent_any node ≡ false) }
+    requires ready { IsReadyAt place made.old.items out.old }
     requires valid { IsValidMessage message.now }
-    requires empty { out.old ≡ empty_step }
     ensures gives { OnOk result (IsSomeAnd (slice_get made.old.items place) (λ node. out.new ≡ gives_any node (events.Deliver message.now))) }
     ensures leaves { OnOk result (IsSomeAnd (slice_get made.old.items place) (λ node. made.new.items ≡ slice_set made.old.items place (leaves_any node (events.Deliver message.now)))) }
     ensures valid { OnOk result (IsValidStep out.new) }

@@ -16,7 +16,7 @@ use crate::copies::{copy_of, copy_of_command};
 use crate::outbox::Outbox;
 use msg_wire::{Command, Config, Event, Input, Step};
 use net_model::History;
-use node_order::{nodes_in_order, place_of};
+use node_order::{nodes_in_order, rank_of};
 use quota_table::OutOfMemory;
 use record_codec::Body;
 use spec_base::NodeId;
@@ -142,7 +142,7 @@ impl Player {
     {
         let Player { mut parts } = self;
         let inside = &mut *parts;
-        let place = place_of(&inside.cfg, node);
+        let place = rank_of(&inside.cfg, node);
         let step = &mut inside.step;
         step_at(&mut inside.nodes, place, alloc, &event, step)?;
         inside.outbox.push(step.sends.len())?;
@@ -184,7 +184,7 @@ impl Player {
         let inside = &mut *parts;
         let message = &inside.history.messages()[number];
         let node = message.to;
-        let place = place_of(&inside.cfg, node);
+        let place = rank_of(&inside.cfg, node);
         let step = &mut inside.step;
         deliver_at(&mut inside.nodes, place, alloc, message, step)?;
         inside.outbox.push(step.sends.len())?;

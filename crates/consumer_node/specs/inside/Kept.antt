@@ -24,7 +24,7 @@ GaveOutputs next output s (r ∷ log) [] = ⊥
 
 -- from the state after the confirmed records, the pending ones gave the application's state, the undos and the outputs,
 -- which stand at their positions; and there is room for 640 records of each of 6 shards
-pub record IsKeptFrom {A U : Type 0} (next : A → Record → A) (output : A → Record → List ℕ) (restored : U → A → A) (base : A) (undos : Points U) (gate : Gate) (app : A) (pending : List Record) (confirmed : ℕ) : Type 0 where
+pub record IsAppliedAheadFrom {A U : Type 0} (next : A → Record → A) (output : A → Record → List ℕ) (restored : U → A → A) (base : A) (undos : Points U) (gate : Gate) (app : A) (pending : List Record) (confirmed : ℕ) : Type 0 where
   pub state : app ≡ fold_of next base pending
   pub gave : Gave next restored base pending undos.held
   pub outputs : GaveOutputs next output base pending gate.held
@@ -43,9 +43,9 @@ pub record HasRoom {U : Type 0} (undos : Points U) (gate : Gate) (position : ℕ
   pub gives_past : IsPast out_position gate.held position
 
 -- the state after the confirmed records is the application's, taken back by all undos
-abbrev pub IsKept : {A U : Type 0} → (A → Record → A) → (A → Record → List ℕ) → (U → A → A) → Points U → Gate → A → List Record → ℕ → Type 0
-IsKept next output restored undos gate app pending confirmed =
-    IsKeptFrom next output restored (taken_back restored undos.held app) undos gate app pending confirmed
+abbrev pub IsAppliedAhead : {A U : Type 0} → (A → Record → A) → (A → Record → List ℕ) → (U → A → A) → Points U → Gate → A → List Record → ℕ → Type 0
+IsAppliedAhead next output restored undos gate app pending confirmed =
+    IsAppliedAheadFrom next output restored (taken_back restored undos.held app) undos gate app pending confirmed
 
 -- six shards, and no more of one confirmed than of all
 pub record AreLanes (confirmed : ℕ) (lanes : List LaneState) : Type 0 where

@@ -14,7 +14,7 @@ impl Agreed {
         match entry {
             Entry::Nothing => None,
             Entry::Cut { window, round } => self.cut_fault(*window, *round),
-            Entry::Table { after, rows, .. } => self.table_fault(*after, rows),
+            Entry::Table { after, rows, .. } => self.grant_reason(*after, rows),
             Entry::Remove { window, shard } => self.remove_fault(*window, *shard),
         }
     }
@@ -37,7 +37,7 @@ impl Agreed {
         None
     }
 
-    fn table_fault(&self, after: u32, rows: &Table) -> Option<Reason>
+    fn grant_reason(&self, after: u32, rows: &Table) -> Option<Reason>
         ensures { result ≡ grant_reason self.now after rows.now }
     {
         let current = self.current.number();

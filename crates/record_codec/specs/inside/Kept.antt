@@ -10,6 +10,6 @@ kept_bytes (Here len places) = take len places
 kept_bytes (Shared bytes) = arc_slice_items bytes
 
 -- no more stand in a value than it has places for, and only more than that are shared
-abbrev pub IsKept : Kept → Type 0
-IsKept (Here len places) = len ≤ IN_PLACE
-IsKept (Shared bytes) = IN_PLACE < length (arc_slice_items bytes)
+abbrev pub IsKeptByLength : Kept → Type 0
+IsKeptByLength (Here len places) = len ≤ IN_PLACE
+IsKeptByLength (Shared bytes) = IN_PLACE < length (arc_slice_items bytes)

@@ -1,8 +1,11 @@
 -- A player as it is kept.
-use Rattle.std.specs.Prelude.{◌≡◌, ◌<◌, length}
+use Rattle.std.specs.Prelude.{◌≡◌, ◌<◌, ℕ, false, List, length, slice_get, IsSomeAnd}
 use Rattle.net_model.specs.Pasts.{past_of}
 use Rattle.msg_wire.specs.Nodes.{nodes_of}
 use Rattle.node_rules.specs.Turns.{empty_step}
+use Rattle.runs.specs.Names.{Step}
+use Rattle.world.specs.AnyNodes.{is_spent_any}
+use Rattle.world.specs.declared.any_node.AnyNode.{AnyNode}
 use Rattle.world.specs.declared.player.Parts.{Parts}
 use Rattle.world.specs.declared.player.Player.TheInside.{Inside}
 use Rattle.world.specs.inside.PlayerSteps.{PlayerState, IsPlayerOf}
@@ -21,3 +24,7 @@ pub record AreParts (p : Parts) : Type 0 where
 
 abbrev pub IsPlayer : Inside → Type 0
 IsPlayer i = AreParts i.parts.value
+
+-- the node at a place can take a step, and the step that it is written into gives nothing yet
+abbrev pub IsReadyAt : ℕ → List AnyNode → Step → Type 0
+IsReadyAt place made out = IsSomeAnd (slice_get made place) (λ node. is_spent_any node ≡ false) × (out ≡ empty_step)

@@ -1,7 +1,7 @@
 use Rattle.std.proofs.Common.{◌≡◌, ◌+◌, ◌++◌, drop, ap, ◌∙◌, sym, subst}
 use Rattle.msg_wire.specs.Valid.{AreValidItems}
 use Rattle.node_actor.specs.Chunks.{all_items}
-use Rattle.node_actor.proofs.Loading.{next_of, read_more, valid_append}
+use Rattle.node_actor.proofs.Loading.{next_spelled, read_more, valid_append}
 use Rattle.node_actor.proofs.store.items_in.Goals as goal
 
 pub loop-entry-preserved : goal.loop-entry-preserved
@@ -11,7 +11,7 @@ loop-entry-preserved c =
     record {
       valid = subst AreValidItems (sym more) (valid_append c.loop-entry.all items c.loop-entry.invariant.valid c.in-Ok.ensures.found.0);
       read = λ chunks entries spelled.
-          let next = next_of chunks c.args.entries.now c.loop-entry.entry-index c.entry-item.result entries spelled c.loop-entry-test.true in
+          let next = next_spelled chunks c.args.entries.now c.loop-entry.entry-index c.entry-item.result entries spelled c.loop-entry-test.true in
           let read = c.in-Ok.ensures.only next.items next.valid.each next.valid.some (c.as_slice.ensures ∙ c.entry-item.is ∙ next.spelled) in
           let is : next.items ≡ items = cc in
           subst (λ all. all ++ all_items (drop (c.loop-entry.entry-index + 1) chunks) ≡ all_items chunks) (sym more)

@@ -6,6 +6,6 @@ use Rattle.world.proofs.cluster.deliver_at.Goals as goal
 
 pub returns : goal.returns
 returns c =
-    let there = read_there c.args.made.now.items c.args.place c.index_mut-node.result.now _ c.requires.there c.index_mut-node.ensures.value in
+    let there = read_there c.args.made.now.items c.args.place c.index_mut-node.result.now _ c.requires.ready.0 c.index_mut-node.ensures.value in
     let leaves = on_ok_weaker c.deliver_into.result (λ e. rw there (ap (slice_set c.args.made.now.items c.args.place) e)) c.deliver_into.ensures.leaves in
     record { gives = on_ok_weaker c.deliver_into.result (λ e. rw there e) c.deliver_into.ensures.gives; leaves = leaves; valid = c.deliver_into.ensures.valid }

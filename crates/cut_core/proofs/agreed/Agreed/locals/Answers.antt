@@ -3,7 +3,7 @@ use Rattle.cut_core.specs.Agreements.{Agreement, count_of}
 use Rattle.cut_core.specs.inside.Kept.{agreement_of, local_end}
 use Rattle.cut_core.proofs.Finding.{count_of-le}
 use Rattle.cut_core.proofs.Ends.{local_end-sound}
-use Rattle.cut_core.proofs.Reach.{IsKept-view, covered-reach}
+use Rattle.cut_core.proofs.Reach.{IsSettled_view, covered-reach}
 use Rattle.cut_core.proofs.agreed.Agreed.locals.Goals as goal
 
 counted : (c : goal.After-local_end) → c.local_end.result ≡ count_of c.args.shard c.args.self.now.covered
@@ -23,5 +23,5 @@ returns-clause-most c = omega (arith, counted c, count_of-le c.args.shard c.args
 pub returns-clause-reach : goal.returns-clause-reach
 returns-clause-reach c =
     let a = c.args.self.now in
-    let is = IsKept-view c.self.inside a c.self.view_is c.self.invariant in
+    let is = IsSettled_view c.self.inside a c.self.view_is c.self.invariant in
     omega (arith, counted c, count_of-le c.args.shard a.covered, covered-reach a is.sound is.few)

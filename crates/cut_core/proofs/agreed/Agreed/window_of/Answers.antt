@@ -1,6 +1,6 @@
 use Rattle.std.proofs.Common.{◌<◌, ◌≤◌, arith}
 use Rattle.cut_core.specs.Map.{covered_locals}
-use Rattle.cut_core.proofs.Reach.{IsKept-view}
+use Rattle.cut_core.proofs.Reach.{IsSettled_view}
 use Rattle.cut_core.proofs.Standing.{rising_locals, local-found, is_past_local, no-locals}
 use Rattle.cut_core.proofs.agreed.Agreed.window_of.Goals as goal
 use Rattle.cut_core.proofs.agreed.Agreed.window_of.Goals.{then-shard-gt5-via-then-shard-gt5, then-shard-gt5-via-else-shard-gt5+then-local-locals}
@@ -8,7 +8,7 @@ use Rattle.cut_core.proofs.agreed.Agreed.window_of.Goals.{then-shard-gt5-via-the
 pub returns-then-shard-gt5 : goal.returns-then-shard-gt5
 returns-then-shard-gt5 c =
     let a = c.args.self.now in
-    let is = IsKept-view c.self.inside a c.self.view_is c.self.invariant in
+    let is = IsSettled_view c.self.inside a c.self.view_is c.self.invariant in
     let past : covered_locals a c.args.shard ≤ c.args.local = elim c.then-shard-gt5.branch [
       | then-shard-gt5-via-then-shard-gt5 w ↦ omega (arith, no-locals a c.args.shard is.sound is.final (omega arith))
       | then-shard-gt5-via-else-shard-gt5+then-local-locals w ↦ omega (arith, w.locals.ensures.locals)

@@ -8,23 +8,23 @@ use Rattle.world.specs.inside.PlayerSteps.{PlayerState, happens}
 use Rattle.world.proofs.Happening.{begins_message, ready_there, has_happened, emptied}
 use Rattle.world.proofs.player.Player.take_message.Goals as goal
 
-pub place_of-place-requires-clause-node : goal.place_of-place-requires-clause-node
-place_of-place-requires-clause-node c =
+pub rank_of-place-requires-clause-node : goal.rank_of-place-requires-clause-node
+rank_of-place-requires-clause-node c =
     let b = begins_message c.args.self c.deref_mut-inside.result.now _ c.messages.result.now c.args.number c.index-messages-number.result
     c.deref_mut-inside.ensures.value c.self.invariant c.self.view_is c.messages.ensures c.requires c.index-messages-number.is in
     b.0.can.within
 
-pub deliver_at-requires-clause-there : goal.deliver_at-requires-clause-there
-deliver_at-requires-clause-there c =
+pub deliver_at-requires-clause-ready : goal.deliver_at-requires-clause-ready
+deliver_at-requires-clause-ready c =
     let b = begins_message c.args.self c.deref_mut-inside.result.now _ c.messages.result.now c.args.number c.index-messages-number.result
     c.deref_mut-inside.ensures.value c.self.invariant c.self.view_is c.messages.ensures c.requires c.index-messages-number.is in
-    ready_there b.0 c.place_of-place.result c.place_of-place.ensures
+    (ready_there b.0 c.rank_of-place.result c.rank_of-place.ensures, b.0.known.between)
 
 pub invariant_of-result : goal.invariant_of-result
 invariant_of-result c =
     let b = begins_message c.args.self c.deref_mut-inside.result.now _ c.messages.result.now c.args.number c.index-messages-number.result
     c.deref_mut-inside.ensures.value c.self.invariant c.self.view_is c.messages.ensures c.requires c.index-messages-number.is in
-    let made = has_happened b.0 c.place_of-place.result c.place_of-place.ensures c.deliver_at.new.out c.len.result c.push_delivery.new.self c.deliver_at.new.made.items c.push.new.self
+    let made = has_happened b.0 c.rank_of-place.result c.rank_of-place.ensures c.deliver_at.new.out c.len.result c.push_delivery.new.self c.deliver_at.new.made.items c.push.new.self
     c.in_ok-deliver_at.ensures.gives c.in_ok-deliver_at.ensures.leaves c.in_ok-deliver_at.ensures.valid
     (c.in_ok-push_delivery.ensures.ok c.index-messages-number.result b.1) c.len.ensures c.in_ok-push.ensures in
     record {
@@ -39,7 +39,7 @@ returns c message sent_one =
     let m = c.index-messages-number.result in
     let b = begins_message c.args.self c.deref_mut-inside.result.now _ c.messages.result.now c.args.number m
     c.deref_mut-inside.ensures.value c.self.invariant c.self.view_is c.messages.ensures c.requires c.index-messages-number.is in
-    let made = has_happened b.0 c.place_of-place.result c.place_of-place.ensures c.deliver_at.new.out c.len.result c.push_delivery.new.self c.deliver_at.new.made.items c.push.new.self
+    let made = has_happened b.0 c.rank_of-place.result c.rank_of-place.ensures c.deliver_at.new.out c.len.result c.push_delivery.new.self c.deliver_at.new.made.items c.push.new.self
     c.in_ok-deliver_at.ensures.gives c.in_ok-deliver_at.ensures.leaves c.in_ok-deliver_at.ensures.valid
     (c.in_ok-push_delivery.ensures.ok m b.1) c.len.ensures c.in_ok-push.ensures in
     let there : slice_get (sent c.args.self.past) c.args.number ≡ Some m = ap (λ (s : PlayerState). slice_get (sent s.past) c.args.number) (sym b.0.view) ∙ b.1 in

@@ -10,7 +10,7 @@ use Rattle.runs.specs.Runs.{IsPastOf}
 use Rattle.runs.specs.Known.{agreed_after, agreed_at, known_at, held_log}
 use Rattle.runs.specs.Logs.{BothReach}
 use Rattle.runs.specs.Maps.{WasKnown}
-use Rattle.safety_frame.specs.Agreed.{agreed_list}
+use Rattle.safety_frame.specs.AgreedList.{agreed_list}
 use Rattle.safety_frame.proofs.Known.{agreed_is_longest}
 use Rattle.safety_frame.proofs.Lists.{begins_itself}
 use Rattle.safety_logs.proofs.CoveredLogs.{covered_is_held, covered_is_common}
