@@ -3,7 +3,7 @@ use Rattle.std.proofs.Common.{◌≡◌, ℕ, ◌<◌, ◌≤◌, nat_lt, nat_le
 use Rattle.std.specs.Bool.{then_some}
 use Rattle.std.proofs.lemmas.Bool.Decides.{nat_tests}
 use Rattle.app_law.specs.Positions.{below, from_on, IsRising, IsPast}
-use Rattle.app_law.proofs.PositionLemmas.{below-above, from_on-above, IsRising-front, IsPast-last}
+use Rattle.app_law.proofs.PositionLemmas.{below_above, from_on_above, IsRising_front, IsPast_last}
 
 le_from : (m n : ℕ) → nat_le m n ≡ true → m ≤ n
 le_from m n e = grind (arith, nat_tests)
@@ -28,28 +28,28 @@ module _ {T : Type 0} (position : T → ℕ) where
   Oldest p old new None = (new ≡ old) × (below position p old ≡ []) × (from_on position p old ≡ old)
   Oldest p old new (Some z) = (position z < p) × (old ≡ z ∷ new) × IsRising position new
 
-  pub newest-empty : (p : ℕ) (old new : List T) (r : Option T) → old ≡ [] → new ≡ [] → r ≡ None → Newest p old new r
-  newest-empty p old new r old_is new_is r_is = rw (r_is, new_is, old_is) (refl, tt)
+  pub newest_empty : (p : ℕ) (old new : List T) (r : Option T) → old ≡ [] → new ≡ [] → r ≡ None → Newest p old new r
+  newest_empty p old new r old_is new_is r_is = rw (r_is, new_is, old_is) (refl, tt)
 
-  pub newest-last : (p : ℕ) (old new xs : List T) (x y : T) (b : Bool) (r : Option T) → IsRising position old → old ≡ xs ++ x ∷ [] → b ≡ nat_le p (position x)
+  pub newest_last : (p : ℕ) (old new xs : List T) (x y : T) (b : Bool) (r : Option T) → IsRising position old → old ≡ xs ++ x ∷ [] → b ≡ nat_le p (position x)
       → y ≡ x → r ≡ then_some b y → new ≡ (if b then xs else xs ++ y ∷ []) → Newest p old new r
-  newest-last p old new xs x y b r rising old_is test same r_is new_is =
+  newest_last p old new xs x y b r rising old_is test same r_is new_is =
       let front : IsRising position (xs ++ x ∷ []) = rw old_is at rising in
       elim b as (λ b. b ≡ nat_le p (position x) → r ≡ then_some b y → new ≡ (if b then xs else xs ++ y ∷ []) → Newest p old new r) [
-        | true ↦ λ test r_is new_is. rw (r_is, new_is, old_is, same) (le_from p (position x) (sym test), refl, (IsRising-front position xs x front).0)
-        | false ↦ λ test r_is new_is. rw (r_is, new_is, old_is, same) (refl, IsPast-last position p xs x front (lt_from_not p (position x) (sym test)))
+        | true ↦ λ test r_is new_is. rw (r_is, new_is, old_is, same) (le_from p (position x) (sym test), refl, (IsRising_front position xs x front).0)
+        | false ↦ λ test r_is new_is. rw (r_is, new_is, old_is, same) (refl, IsPast_last position p xs x front (lt_from_not p (position x) (sym test)))
       ] test r_is new_is
 
-  pub oldest-empty : (p : ℕ) (old new : List T) (r : Option T) → old ≡ [] → new ≡ [] → r ≡ None → Oldest p old new r
-  oldest-empty p old new r old_is new_is r_is = rw (r_is, new_is, old_is) (refl, refl, refl)
+  pub oldest_empty : (p : ℕ) (old new : List T) (r : Option T) → old ≡ [] → new ≡ [] → r ≡ None → Oldest p old new r
+  oldest_empty p old new r old_is new_is r_is = rw (r_is, new_is, old_is) (refl, refl, refl)
 
-  pub oldest-first : (p : ℕ) (old new xs : List T) (x y : T) (b : Bool) (r : Option T) → IsRising position old → old ≡ x ∷ xs → b ≡ nat_lt (position x) p
+  pub oldest_first : (p : ℕ) (old new xs : List T) (x y : T) (b : Bool) (r : Option T) → IsRising position old → old ≡ x ∷ xs → b ≡ nat_lt (position x) p
       → y ≡ x → r ≡ then_some b y → new ≡ (if b then xs else y ∷ xs) → Oldest p old new r
-  oldest-first p old new xs x y b r rising old_is test same r_is new_is =
+  oldest_first p old new xs x y b r rising old_is test same r_is new_is =
       let all : IsRising position (x ∷ xs) = rw old_is at rising in
       elim b as (λ b. b ≡ nat_lt (position x) p → r ≡ then_some b y → new ≡ (if b then xs else y ∷ xs) → Oldest p old new r) [
         | true ↦ λ test r_is new_is. rw (r_is, new_is, old_is, same) (lt_from (position x) p (sym test), refl, all.1)
         | false ↦ λ test r_is new_is.
             let above : p ≤ position x = le_from_not (position x) p (sym test) in
-            rw (r_is, new_is, old_is, same) (refl, below-above position p x xs all above, from_on-above position p x xs all above)
+            rw (r_is, new_is, old_is, same) (refl, below_above position p x xs all above, from_on_above position p x xs all above)
       ] test r_is new_is

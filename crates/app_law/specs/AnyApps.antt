@@ -42,12 +42,12 @@ any_restored (undos.Kv undo) (Kv kv) = Kv (kv_restored undo kv)
 any_restored _ app = app
 
 -- a record that fills a place leaves each of them, and gives nothing
-pub any_next-noop : (app : AnyApp) → any_next app Noop ≡ app
-any_next-noop (Tally t) = refl
-any_next-noop (Bank b) = refl
-any_next-noop (Kv kv) = refl
+pub any_next_noop : (app : AnyApp) → any_next app Noop ≡ app
+any_next_noop (Tally t) = refl
+any_next_noop (Bank b) = refl
+any_next_noop (Kv kv) = refl
 
-pub any_output-noop : (app : AnyApp) → any_output app Noop ≡ []
-any_output-noop (Tally t) = refl
-any_output-noop (Bank b) = refl
-any_output-noop (Kv kv) = refl
+pub any_output_noop : (app : AnyApp) → any_output app Noop ≡ []
+any_output_noop (Tally t) = refl
+any_output_noop (Bank b) = refl
+any_output_noop (Kv kv) = refl

@@ -23,7 +23,7 @@ pub enum AnyUndo {
 impl App for AnyApp {
     type Undo = AnyUndo;
 
-    ghost use Rattle.app_law.specs.AnyApps.{any_fresh, any_next, any_output, any_shown, any_restored, any_next-noop, any_output-noop};
+    ghost use Rattle.app_law.specs.AnyApps.{any_fresh, any_next, any_output, any_shown, any_restored, any_next_noop, any_output_noop};
 
     ghost fresh_state = { any_fresh };
 
@@ -35,9 +35,9 @@ impl App for AnyApp {
 
     ghost restored = { any_restored };
 
-    ghost noop_leaves = { any_next-noop };
+    ghost noop_leaves = { any_next_noop };
 
-    ghost noop_gives = { any_output-noop };
+    ghost noop_gives = { any_output_noop };
 
     fn fresh(kind: AppKind) -> AnyApp {
         match kind {

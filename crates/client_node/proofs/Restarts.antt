@@ -54,11 +54,11 @@ step_leads n event valid =
 abbrev client_life : Config → NodeId → List Event → Life ClientState
 client_life cfg me = life_of client_step (fresh_node cfg me)
 
-pub restart-items : (cfg : Config) (me : NodeId) (events : List Event) → AllByRecursion IsValidEvent events
+pub restart_items : (cfg : Config) (me : NodeId) (events : List Event) → AllByRecursion IsValidEvent events
     → reset_of (client_life cfg me events).node ≡ restart_of cfg me (client_life cfg me events).stored
-restart-items cfg me [] each = refl
-restart-items cfg me (event ∷ events) each =
+restart_items cfg me [] each = refl
+restart_items cfg me (event ∷ events) each =
     let life = client_life cfg me events in
-    let before : restart_of cfg me life.stored ≡ reset_of life.node = sym (restart-items cfg me events each.1) in
+    let before : restart_of cfg me life.stored ≡ reset_of life.node = sym (restart_items cfg me events each.1) in
     sym (fold-append fit (fresh_node cfg me) life.stored (client_step life.node event).stable
     ∙ (ap (λ (m : Node ClientState). fold fit m (client_step life.node event).stable) before ∙ step_leads life.node event each.0))

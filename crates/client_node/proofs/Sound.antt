@@ -19,7 +19,7 @@ use Rattle.client_node.specs.Sound.{IsClient}
 use Rattle.client_node.specs.Steps.{client_step}
 use Rattle.client_node.specs.Restart.{fit, fresh_node}
 use Rattle.client_node.specs.Laws.{StepsAreValid}
-use Rattle.client_node.proofs.Homes.{home-small, spot-small}
+use Rattle.client_node.proofs.Homes.{home_small, spot_small}
 use Rattle.client_node.proofs.Places.{Says, Stores, sends_body, asks_fate, submits, counts, moves, client_places}
 use Rattle.client_node.proofs.Walk.{client_walk}
 
@@ -57,7 +57,7 @@ module _ (n : Node ClientState) (event : Event) (valid : IsValidEvent event) whe
   stores_valid s _ _ (counts from number position comes next room) is =
       (tt, record { base = is.base; own = record { bodies = is.own.bodies; few = is.own.few; acked = omega (arith, next, room); home = is.own.home; first = is.own.first } })
   stores_valid s _ _ (moves from next row comes home gone next_is row_is) is =
-      let small : row.shard ≤ 5 = spot-small (agreed_by s.base).current.spots _ row (agreed_sound s.base is.base).window.table.within row_is in
+      let small : row.shard ≤ 5 = spot_small (agreed_by s.base).current.spots _ row (agreed_sound s.base is.base).window.table.within row_is in
       let low : next ≤ 2 ^ 48 = omega (arith, next_is, is.own.acked) in
       ((small, low), record { base = is.base; own = record { bodies = is.own.bodies; few = is.own.few; acked = is.own.acked; home = small; first = low } })
 
@@ -85,14 +85,14 @@ pub step_sound : (n : Node ClientState) (event : Event) → IsClient n → IsVal
 step_sound n event is valid = client_walk (IsKept client_keeping n) n event (keeping client_places client_keeping n event (client_keeps n event valid) valid is)
 
 -- what a step gives is valid
-pub step-valid : (n m : Node ClientState) (event : Event) (out : Step) → IsClient n → IsValidEvent event → turn_of m out ≡ client_step n event
+pub step_valid : (n m : Node ClientState) (event : Event) (out : Step) → IsClient n → IsValidEvent event → turn_of m out ≡ client_step n event
     → IsValidStep out
-step-valid n m event out is valid e = kept_valid client_keeping n (turn_of m out) (subst (IsKept client_keeping n) (sym e) (step_sound n event is valid))
+step_valid n m event out is valid e = kept_valid client_keeping n (turn_of m out) (subst (IsKept client_keeping n) (sym e) (step_sound n event is valid))
 
 pub fresh_sound : (cfg : Config) (me : NodeId) → IsValidConfig cfg → IsNodeOf cfg me → IsClient (fresh_node cfg me)
 fresh_sound cfg me valid here = record {
   base = base_fresh cfg me valid here;
-  own = record { bodies = tt; few = omega arith; acked = omega arith; home = home-small cfg (number_of me) valid; first = omega arith };
+  own = record { bodies = tt; few = omega arith; acked = omega arith; home = home_small cfg (number_of me) valid; first = omega arith };
 }
 
 pub steps_are_valid : StepsAreValid

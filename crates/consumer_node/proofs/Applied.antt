@@ -8,7 +8,7 @@ use Rattle.std.proofs.lemmas.Option.{slice_get_within, same_Some}
 use Rattle.consumer_node.specs.inside.Names.{Owner, IsValidRecord, Agreement, count_of, lane_of, Node, agreed_by, ConsumerState, held_of, held_for, IsOwn, IsConsumer}
 use Rattle.record_codec.specs.declared.record.Record.{Record}
 use Rattle.cut_core.specs.Map.{rest_of, granted_layout, map_of, mapped}
-use Rattle.cut_core.proofs.Dense.{map-dense}
+use Rattle.cut_core.proofs.Dense.{map_dense}
 use Rattle.consumer_node.proofs.Lanes.{held_valid, held_reach}
 use Rattle.consumer_node.proofs.Closings.{all_lane}
 use Rattle.consumer_node.proofs.Owners.{IsAgreement, agreement_by}
@@ -92,7 +92,7 @@ of_shard a s (suc n) shard agreed is within small =
     elim (cases_Bool (at.owner.shard == shard)) [
       | inl own ↦
           let same : at.owner.shard ≡ shard = eqb-true at.owner.shard shard own in
-          let local : at.owner.local ≡ count_of at.owner.shard (take (s.confirmed + n) (map_of a)) = local_at (map_of a) (s.confirmed + n) at.owner (map-dense a at.owner.shard agreed.sound) at.position in
+          let local : at.owner.local ≡ count_of at.owner.shard (take (s.confirmed + n) (map_of a)) = local_at (map_of a) (s.confirmed + n) at.owner (map_dense a at.owner.shard agreed.sound) at.position in
           let reach = held_reach (lane_of s.lanes at.owner.shard) at.owner.local at.rec (all_lane s.lanes at.owner.shard is.lanes) at.held in
           let floor : (lane_of s.lanes shard).floor ≡ count_of shard (take s.confirmed a.covered) = is.floors shard small in
           omega (
@@ -122,8 +122,8 @@ few_pending a s agreed is =
 
 -- ---- of a consumer
 
-pub IsConsumer-few : {A : Type 0} (n : Node (ConsumerState A)) → IsConsumer n → length n.own.pending ≤ 3840
-IsConsumer-few n is = few_pending (agreed_by n.base) n.own (agreement_by n.base is.base) is.own
+pub IsConsumer_few : {A : Type 0} (n : Node (ConsumerState A)) → IsConsumer n → length n.own.pending ≤ 3840
+IsConsumer_few n is = few_pending (agreed_by n.base) n.own (agreement_by n.base is.base) is.own
 
-pub IsConsumer-valid : {A : Type 0} (n : Node (ConsumerState A)) → IsConsumer n → AllByRecursion IsValidRecord n.own.pending
-IsConsumer-valid n is = pending_valid (agreed_by n.base) n.own is.own
+pub IsConsumer_valid : {A : Type 0} (n : Node (ConsumerState A)) → IsConsumer n → AllByRecursion IsValidRecord n.own.pending
+IsConsumer_valid n is = pending_valid (agreed_by n.base) n.own is.own

@@ -11,7 +11,7 @@ use Rattle.consumer_node.proofs.Lanes.{lane_fresh, lane_emptied, lane_closed, he
 use Rattle.std.specs.Option.{option_map_or}
 use Rattle.std.proofs.lemmas.Bool.{cases_Bool, cases_eq, cond-true, cond-false, eqb-true, eqb-false, lt-ltb}
 use Rattle.std.proofs.lemmas.List.{get_or-set_same, get_or-set_other, set-get_or, ext_get_or}
-use Rattle.cut_core.proofs.Ends.{AreCounts, end_among-counted}
+use Rattle.cut_core.proofs.Ends.{AreCounts, end_among_counted}
 use Rattle.node_rules.specs.Names.{Record}
 use Rattle.node_rules.proofs.Lists.{all_weaken}
 use Rattle.consumer_node.specs.inside.Closing.{close_shard}
@@ -93,9 +93,9 @@ closed_same lane end before is =
     let made : Option ℕ → List (ℕ × Record) → LaneState = λ other held. record { floor = lane.floor; end = other; held = held } in
     ap (λ other. made other (filter (λ e. nat_lt e.0 end) lane.held)) (sym is) ∙ ap (made lane.end) (filter_kept (λ e. nat_lt e.0 end) lane.held before)
 
-pub with_end-same : (lanes : List LaneState) (shard end : ℕ) → HoldsInReach (lane_of lanes shard) → (lane_of lanes shard).end ≡ Some end
+pub with_end_same : (lanes : List LaneState) (shard end : ℕ) → HoldsInReach (lane_of lanes shard) → (lane_of lanes shard).end ≡ Some end
     → with_end lanes shard end ≡ lanes
-with_end-same lanes shard end reach is =
+with_end_same lanes shard end reach is =
     let lane = lane_of lanes shard in
     let before = all_weaken (λ (e : ℕ × Record). IsInReach lane e.0) (λ e. nat_lt e.0 end ≡ true) lane.held (λ e within. let known = rw is at within in lt-ltb e.0 end known.2) reach in
     ap (slice_set lanes shard) (closed_same lane end before is) ∙ set-get_or lanes shard fresh_lane
@@ -118,7 +118,7 @@ ended_again count gs shard end lane counts is =
     elim (end_among gs shard) as (λ (o : Option ℕ). end_among gs shard ≡ o → ended o (closed lane end) ≡ closed lane end) [
       | None ↦ λ e. refl
       | Some other ↦ λ e.
-          ap (closed (closed lane end)) (end_among-counted count gs shard other counts e ∙ sym is)
+          ap (closed (closed lane end)) (end_among_counted count gs shard other counts e ∙ sym is)
           ∙ closed_same (closed lane end) end (recursion_from_All _ _ (filter_passes (λ (e : ℕ × Record). nat_lt e.0 end) lane.held)) refl
     ] refl
 
@@ -178,9 +178,9 @@ shards_at gone lanes from (suc count) shard past below within =
           ∙ ap (ended (end_among gone shard)) stays
     ]
 
-pub close-shards : (count : ℕ → ℕ) (gone : List Gone) (lanes : List LaneState) → AreCounts count gone → length lanes ≡ 6
+pub close_shards : (count : ℕ → ℕ) (gone : List Gone) (lanes : List LaneState) → AreCounts count gone → length lanes ≡ 6
     → fold (close_shard gone) lanes (range_with_len 0 6) ≡ fold close lanes gone
-close-shards count gone lanes counts six =
+close_shards count gone lanes counts six =
     ext_get_or fresh_lane _ _ (shards_length gone lanes 0 6 ∙ sym (length_closed gone lanes))
     (λ shard below.
     let within : shard < length lanes = omega (arith, below, shards_length gone lanes 0 6) in

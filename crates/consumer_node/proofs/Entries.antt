@@ -16,7 +16,7 @@ use Rattle.std.proofs.lemmas.Map.Lookups.{exact_unsigned}
 use Rattle.std.proofs.lemmas.Map.Keys.{sorted_head, sorted_tail, IsDistinct-from_sorted}
 use Rattle.record_codec.specs.declared.record.Record.{Record}
 use Rattle.node_rules.proofs.Lists.{all_weaken}
-use Rattle.spec_delivery.proofs.LaneLemmas.{all-insert, all-remove}
+use Rattle.spec_delivery.proofs.LaneLemmas.{all_insert, all_remove}
 
 abbrev pub Entries : Type 0
 Entries = List (ℕ × Record)
@@ -88,7 +88,7 @@ order_insert (e ∷ es) k r h =
           let first : k < e.0 = less_lt k e.0 c in
           order_first k r (e ∷ es) (first, all_weaken (λ x. e.0 < x.0) (λ x. k < x.0) es (λ x past. omega (arith, first, past)) later) h
       | Equal ↦ λ c. order_first e.0 r es later (later_order e es h)
-      | Greater ↦ λ c. order_first e.0 e.1 (insert_entry nat_cmp es k r) (all-insert (λ n. e.0 < n) es k r later (greater_lt k e.0 c)) (order_insert es k r (later_order e es h))
+      | Greater ↦ λ c. order_first e.0 e.1 (insert_entry nat_cmp es k r) (all_insert (λ n. e.0 < n) es k r later (greater_lt k e.0 c)) (order_insert es k r (later_order e es h))
     ] refl
 
 pub order_remove : (test : ℕ → Bool) (es : Entries) → InOrder es → InOrder (remove_entry test es)
@@ -96,7 +96,7 @@ order_remove test [] h = h
 order_remove test (e ∷ es) h =
     elim (test e.0) as (λ b. InOrder (cond b es (e ∷ remove_entry test es))) [
       | true ↦ later_order e es h
-      | false ↦ order_first e.0 e.1 (remove_entry test es) (all-remove (λ n. e.0 < n) test es (later_keys e es h)) (order_remove test es (later_order e es h))
+      | false ↦ order_first e.0 e.1 (remove_entry test es) (all_remove (λ n. e.0 < n) test es (later_keys e es h)) (order_remove test es (later_order e es h))
     ]
 
 pub all_filter : (P : ℕ × Record → Type 0) (test : ℕ × Record → Bool) (es : Entries) → AllByRecursion P es → AllByRecursion P (filter test es)

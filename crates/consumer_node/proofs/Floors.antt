@@ -10,13 +10,13 @@ use Rattle.consumer_node.proofs.Closings.{all_of, all_set}
 abbrev IsLow : ℕ → LaneState → Type 0
 IsLow confirmed lane = lane.floor ≤ confirmed
 
-pub lanes-clear : (confirmed : ℕ) (lanes : List LaneState) → AreLanes confirmed lanes → AreLanes confirmed (without_records lanes)
-lanes-clear confirmed lanes h =
+pub lanes_clear : (confirmed : ℕ) (lanes : List LaneState) → AreLanes confirmed lanes → AreLanes confirmed (without_records lanes)
+lanes_clear confirmed lanes h =
     let low = IsLow confirmed in
     record { shards = length-map lanes emptied ∙ h.shards; floors = recursion_from_All low (without_records lanes) (All-map low emptied lanes (All-from_recursion low lanes h.floors)) }
 
-pub lanes-raise : (confirmed : ℕ) (lanes : List LaneState) (shard : ℕ) → AreLanes confirmed lanes → AreLanes (confirmed + 1) (with_floor lanes shard)
-lanes-raise confirmed lanes shard h =
+pub lanes_raise : (confirmed : ℕ) (lanes : List LaneState) (shard : ℕ) → AreLanes confirmed lanes → AreLanes (confirmed + 1) (with_floor lanes shard)
+lanes_raise confirmed lanes shard h =
     let lane = raised (lane_of lanes shard) in
     let low : (lane_of lanes shard).floor ≤ confirmed = all_of (IsLow confirmed) lanes shard (omega arith) h.floors in
     record {

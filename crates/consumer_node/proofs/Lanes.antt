@@ -10,7 +10,7 @@ use Rattle.consumer_node.specs.inside.Names.{IsValidRecord, IsLane}
 use Rattle.spec_delivery.specs.declared.put.Put.{Put}
 use Rattle.spec_delivery.specs.declared.put.Put.TheVariants.{Old, Far, Again, Kept}
 use Rattle.spec_delivery.specs.Lanes.{LaneState, IsBeforeEnd, IsInReach, fresh_lane, held_at, is_past_end, put_answer, after_put, raised, closed, emptied}
-use Rattle.spec_delivery.proofs.LaneLemmas.{all-insert, all-lookup, reach_raised, reach_closed}
+use Rattle.spec_delivery.proofs.LaneLemmas.{all_insert, all_lookup, reach_raised, reach_closed}
 use Rattle.consumer_node.proofs.Entries.{order_none, order_insert, order_remove, order_filter, all_filter, records_insert, records_remove, record_found, found_insert, found_below, removed, others_stay}
 
 -- ---- none, and all dropped
@@ -29,7 +29,7 @@ held_valid lane local rec h e = record_found IsValidRecord local lane.held rec h
 pub held_reach : (lane : LaneState) (local : ℕ) (rec : Record) → IsLane lane → held_at lane local ≡ Some rec → IsInReach lane local
 held_reach lane local rec h e =
     let some : IsSome (held_at lane local) = subst (λ (o : Option Record). IsSome o) (sym e) refl in
-    all-lookup (IsInReach lane) local lane.held h.reach some
+    all_lookup (IsInReach lane) local lane.held h.reach some
 
 -- ---- a record is put
 
@@ -56,7 +56,7 @@ pub lane_put : (lane : LaneState) (local : ℕ) (rec : Record) → IsValidRecord
 lane_put lane local rec valid h =
     on_answer (λ put. IsLane (after_put put lane local rec)) lane local h h h
     (λ reach free. record {
-      reach = all-insert (IsInReach lane) lane.held local rec h.reach reach;
+      reach = all_insert (IsInReach lane) lane.held local rec h.reach reach;
       order = order_insert lane.held local rec h.order;
       records = records_insert IsValidRecord lane.held local rec h.records valid;
     })

@@ -10,11 +10,11 @@ use Rattle.consumer_node.specs.inside.Names.{Gone, Agreement, agreement_from, co
 use Rattle.consumer_node.specs.inside.Names.{held_at, lane_of, Base, first_window, agreed_by, knowing, IsBase, ConsumerState, with_pending, held_of, close, close_gone}
 use Rattle.consumer_node.specs.inside.Names.{IsOwn}
 use Rattle.cut_core.specs.Fold.{applied}
-use Rattle.cut_core.proofs.AgreeingLemmas.{covered-applied, mapped-applied, applied_all-push}
-use Rattle.cut_core.proofs.Ends.{is_among, end_among-counted}
-use Rattle.cut_core.proofs.Finding.{dense-below}
-use Rattle.cut_core.proofs.GoneEnds.{gone_end-applied_all}
-use Rattle.cut_core.proofs.Consistent.{IsConsistent-sound}
+use Rattle.cut_core.proofs.AgreeingLemmas.{covered_applied, mapped_applied, applied_all_push}
+use Rattle.cut_core.proofs.Ends.{is_among, end_among_counted}
+use Rattle.cut_core.proofs.Finding.{dense_below}
+use Rattle.cut_core.proofs.GoneEnds.{gone_end_applied_all}
+use Rattle.cut_core.proofs.Consistent.{IsConsistent_sound}
 use Rattle.consumer_node.proofs.Closings.{ended, ended_floor, ended_end, ended_held, length_closed, all_closed, lane_at_end}
 use Rattle.consumer_node.proofs.Owners.{IsAgreement, agreement_by, owner_small}
 use Rattle.consumer_node.proofs.Applied.{applied_at}
@@ -25,13 +25,13 @@ use Rattle.consumer_node.proofs.Owned.{IsLearned, Any, applied_still}
 end_before : (a : Agreement) (entry : Entry) (shard : ℕ) (end : Option ℕ) → gone_end a shard ≡ end → gone_end (applied a entry) shard ≡ None → end ≡ None
 end_before a entry shard None e none = refl
 end_before a entry shard (Some end) e none =
-    let stays : gone_end (applied a entry) shard ≡ Some end = gone_end-applied_all a (entry ∷ []) shard end e in
+    let stays : gone_end (applied a entry) shard ≡ Some end = gone_end_applied_all a (entry ∷ []) shard end e in
     absurd (cc)
 
 own_learned : {A : Type 0} (a : Agreement) (entry : Entry) (s : ConsumerState A) → IsAgreement a → IsLearned Any a s
     → IsLearned (IsBelowFirst (effect_of a entry)) (applied a entry) s
 own_learned a entry s agreed is =
-    let more = covered-applied a entry in
+    let more = covered_applied a entry in
     record {
       shards = is.shards;
       lanes = is.lanes;
@@ -44,7 +44,7 @@ own_learned a entry s agreed is =
           let held = is.applied i below tt in
           let at = applied_at a s i below held in
           let same : mapped (applied a entry) (s.confirmed + i) ≡ mapped a (s.confirmed + i) =
-          mapped-applied a entry (s.confirmed + i) agreed.sound (slice_get_within (map_of a) (s.confirmed + i) at.owner at.position) stays in
+          mapped_applied a entry (s.confirmed + i) agreed.sound (slice_get_within (map_of a) (s.confirmed + i) at.owner at.position) stays in
           ap (option_and_then (held_of s.lanes)) same ∙ held;
     }
 
@@ -52,7 +52,7 @@ own_learned a entry s agreed is =
 pub own_knowing : {A : Type 0} (b : Base) (entry : Entry) (s : ConsumerState A) → IsBase b → IsLearned Any (agreed_by b) s
     → IsLearned (IsBelowFirst (effect_of (agreed_by b) entry)) (agreed_by (knowing entry b)) s
 own_knowing b entry s base is =
-    subst (λ (a : Agreement). IsLearned (IsBelowFirst (effect_of (agreed_by b) entry)) a s) (sym (applied_all-push (agreement_from (first_window b.cfg)) b.known entry))
+    subst (λ (a : Agreement). IsLearned (IsBelowFirst (effect_of (agreed_by b) entry)) a s) (sym (applied_all_push (agreement_from (first_window b.cfg)) b.known entry))
     (own_learned (agreed_by b) entry s (agreement_by b base) is)
 
 -- ---- what is undone
@@ -95,7 +95,7 @@ among_end (g ∷ gs) shard end e = elim (cases_Bool (g.shard == shard)) [
 pub own_closed : {A : Type 0} (a : Agreement) (s : ConsumerState A) → IsAgreement a → IsLearned Any a s → IsOwn a (close_gone a s)
 own_closed a s agreed is =
     let lanes = fold close s.lanes a.gone in
-    let whole = IsConsistent-sound a agreed.sound agreed.ended in
+    let whole = IsConsistent_sound a agreed.sound agreed.ended in
     let count : ℕ → ℕ = λ shard. count_of shard a.covered in
     let at : (shard : ℕ) → shard < 6 → lane_of lanes shard ≡ ended (gone_end a shard) (lane_of s.lanes shard) =
     λ shard small. lane_at_end count a.gone s.lanes shard agreed.ended (omega (arith, small, is.shards)) in
@@ -113,9 +113,9 @@ own_closed a s agreed is =
           ∙ (ended_held (gone_end a o.shard) (lane_of s.lanes o.shard) o.local
           (λ end gone. omega (
             arith,
-            end_among-counted count a.gone o.shard end agreed.ended gone,
+            end_among_counted count a.gone o.shard end agreed.ended gone,
             whole.gone_own_covered o.shard (among_end a.gone o.shard end gone),
-            dense-below (map_of a) o.shard o.local (s.confirmed + i) (whole.dense o.shard) here.position,
+            dense_below (map_of a) o.shard o.local (s.confirmed + i) (whole.dense o.shard) here.position,
           ))
           ∙ here.held) in
           applied_still a s lanes i here held;

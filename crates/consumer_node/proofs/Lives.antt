@@ -18,7 +18,7 @@ use Rattle.consumer_node.proofs.Reached.{IsReached, OutputsFitFrom, reached_none
 use Rattle.consumer_node.proofs.Turns.{IsConsumerTurn}
 pub use Rattle.consumer_node.proofs.Turns.{kept_step}
 use Rattle.consumer_node.proofs.Owners.{agreement_by}
-use Rattle.consumer_node.proofs.Applied.{IsConsumer-few, IsConsumer-valid}
+use Rattle.consumer_node.proofs.Applied.{IsConsumer_few, IsConsumer_valid}
 pub use Rattle.consumer_node.proofs.Turns.{kept_handle}
 
 module _ {A : Type 0} (app : Meaning A) where
@@ -83,7 +83,7 @@ applied_sound n rec held is = record { base = is.base; own = own_apply (agreed_b
 pub applied_room : {A : Type 0} (n : Node (ConsumerState A)) (rec : Record) → held_for (agreed_by n.base) n.own (applied_of n.own) ≡ Some rec → IsConsumer n
     → length n.own.pending < 3840
 applied_room n rec held is =
-    let few = IsConsumer-few (with_own (with_pending (n.own.pending ++ rec ∷ []) n.own) n) (applied_sound n rec held is) in
+    let few = IsConsumer_few (with_own (with_pending (n.own.pending ++ rec ∷ []) n.own) n) (applied_sound n rec held is) in
     omega (arith, few, length-append n.own.pending (rec ∷ []))
 
 pub confirmed_sound : {A : Type 0} (app : Meaning A) (n : Node (ConsumerState A)) (rec : Record) (o : Owner) (own : ConsumerState A)
@@ -93,4 +93,4 @@ confirmed_sound {A} app n rec o own here same is =
     (record { base = is.base; own = own_confirm app (agreed_by n.base) n.own rec o (agreement_by n.base is.base) here is.own })
 
 pub oldest_valid : {A : Type 0} (n : Node (ConsumerState A)) (rec : Record) (rest : List Record) → n.own.pending ≡ rec ∷ rest → IsConsumer n → IsValidRecord rec
-oldest_valid n rec rest oldest is = (subst (AllByRecursion IsValidRecord) oldest (IsConsumer-valid n is)).0
+oldest_valid n rec rest oldest is = (subst (AllByRecursion IsValidRecord) oldest (IsConsumer_valid n is)).0

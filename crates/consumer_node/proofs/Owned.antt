@@ -7,12 +7,12 @@ use Rattle.std.proofs.lemmas.List.{length-drop, length-map, get_or-replicate, ge
 use Rattle.std.proofs.lemmas.Option.{slice_get_within, same_Some}
 use Rattle.consumer_node.specs.inside.Names.{Owner, AppKind, IsValidRecord, Agreement, agreement_from, count_of, LaneState, fresh_lane, held_at, after_put, raised}
 use Rattle.consumer_node.specs.inside.Names.{emptied, Meaning, held_of, with_confirmed}
-use Rattle.fix_ante.proofs.Entries.{slice_get-append_left, slice_get-append_right}
+use Rattle.fix_ante.proofs.Entries.{slice_get_append_left, slice_get_append_right}
 use Rattle.record_codec.specs.declared.record.Record.{Record}
 use Rattle.fix_ante.specs.Windows.{Window}
 use Rattle.cut_core.specs.Map.{gone_end, map_of, mapped, located, leased}
-use Rattle.cut_core.proofs.Dense.{map-dense, leased-mapped}
-use Rattle.cut_core.proofs.Parts.{mapped-covered}
+use Rattle.cut_core.proofs.Dense.{map_dense, leased_mapped}
+use Rattle.cut_core.proofs.Parts.{mapped_covered}
 use Rattle.spec_delivery.specs.Buffers.{lane_of, answer_to, with_record, with_floor}
 use Rattle.consumer_node.specs.States.{ConsumerState, fresh_consumer, applied_of, with_lanes, with_pending}
 use Rattle.consumer_node.specs.Restart.{reset_own}
@@ -103,12 +103,12 @@ own_apply a s rec held is = record {
   floors = is.floors;
   ends = is.ends;
   applied = λ i below. elim (cases_lt i (length s.pending)) [
-    | inl old ↦ is.applied i old ∙ sym (slice_get-append_left s.pending (rec ∷ []) i old)
+    | inl old ↦ is.applied i old ∙ sym (slice_get_append_left s.pending (rec ∷ []) i old)
     | inr new ↦
         let last : i ≡ length s.pending = omega (arith, new, below, length-append s.pending (rec ∷ [])) in
         let end : length s.pending + 0 ≡ i = omega (arith, last) in
         let there : slice_get (s.pending ++ rec ∷ []) i ≡ Some rec =
-        ap (slice_get (s.pending ++ rec ∷ [])) (sym end) ∙ slice_get-append_right s.pending (rec ∷ []) (length s.pending) 0 refl in
+        ap (slice_get (s.pending ++ rec ∷ [])) (sym end) ∙ slice_get_append_right s.pending (rec ∷ []) (length s.pending) 0 refl in
         ap (λ k. held_for a s (s.confirmed + k)) last ∙ (held ∙ sym there)
   ];
 }
@@ -123,7 +123,7 @@ drop_one (x ∷ xs) i = refl
 apart : (a : Agreement) (p q : ℕ) (o u : Owner) → IsAgreement a → mapped a p ≡ Some o → mapped a q ≡ Some u → p < q → o.shard ≡ u.shard → o.local ≡ u.local
     → Some p ≡ Some q
 apart a p q o u is first second less shard local =
-    sym (leased-mapped a p o is.sound first) ∙ (ap (λ k. leased a k o.local) shard ∙ (ap (leased a u.shard) local ∙ leased-mapped a q u is.sound second))
+    sym (leased_mapped a p o is.sound first) ∙ (ap (λ k. leased a k o.local) shard ∙ (ap (leased a u.shard) local ∙ leased_mapped a q u is.sound second))
 
 -- the record of a later position is held still
 later_held : {A : Type 0} (a : Agreement) (s : ConsumerState A) (o u : Owner) (q : ℕ) (rec : Record) → IsAgreement a → IsLearned Any a s
@@ -133,12 +133,12 @@ later_held a s o u q rec agreed is here later there held =
     let lane = raised (lane_of s.lanes o.shard) in
     let within : s.confirmed < length a.covered = slice_get_within a.covered s.confirmed o here in
     let small = located_small a s.confirmed o agreed here in
-    let position : mapped a s.confirmed ≡ Some o = mapped-covered a s.confirmed within ∙ here in
+    let position : mapped a s.confirmed ≡ Some o = mapped_covered a s.confirmed within ∙ here in
     elim (cases_Bool (o.shard == u.shard)) [
       | inl own ↦
           let same : o.shard ≡ u.shard = eqb-true o.shard u.shard own in
           let floor : (lane_of s.lanes o.shard).floor ≡ o.local =
-          is.floors o.shard small ∙ (sym (ap (count_of o.shard) (take_covered a s.confirmed is.confirmed)) ∙ sym (local_at (map_of a) s.confirmed o (map-dense a o.shard agreed.sound) position)) in
+          is.floors o.shard small ∙ (sym (ap (count_of o.shard) (take_covered a s.confirmed is.confirmed)) ∙ sym (local_at (map_of a) s.confirmed o (map_dense a o.shard agreed.sound) position)) in
           let other : (lane_of s.lanes o.shard).floor ≡ u.local → ⊥ = λ e.
           (let one = same_Some s.confirmed q (apart a s.confirmed q o u agreed position there later same (sym floor ∙ e)) in omega (arith, one, later)) in
           let above : (lane_of s.lanes u.shard).floor ≡ u.local → ⊥ = subst (λ k. (lane_of s.lanes k).floor ≡ u.local → ⊥) same other in

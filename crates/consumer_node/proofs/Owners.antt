@@ -7,12 +7,12 @@ use Rattle.consumer_node.specs.inside.Names.{IsValidEntry, Owner, Agreement, agr
 use Rattle.consumer_node.specs.inside.Names.{IsBase}
 use Rattle.cut_core.specs.Fold.{applied, applied_all, HasValidTable}
 use Rattle.cut_core.specs.Soundness.{IsSound}
-use Rattle.cut_core.proofs.Sound.{IsSound-applied}
-use Rattle.cut_core.proofs.Kept.{IsSound-first}
-use Rattle.cut_core.proofs.Finding.{dense-below, count_of-le}
-use Rattle.cut_core.proofs.GoneEnds.{IsEnded, IsEnded-applied}
-use Rattle.cut_core.proofs.Consistent.{IsConsistent-sound}
-use Rattle.cut_core.proofs.AgreeingLemmas.{slots-applied_all}
+use Rattle.cut_core.proofs.Sound.{IsSound_applied}
+use Rattle.cut_core.proofs.Kept.{IsSound_first}
+use Rattle.cut_core.proofs.Finding.{dense_below, count_of_le}
+use Rattle.cut_core.proofs.GoneEnds.{IsEnded, IsEnded_applied}
+use Rattle.cut_core.proofs.Consistent.{IsConsistent_sound}
+use Rattle.cut_core.proofs.AgreeingLemmas.{slots_applied_all}
 use Rattle.node_rules.specs.Names.{Config, NodeId, Row, Entry}
 use Rattle.node_rules.specs.Names.entries
 use Rattle.node_rules.specs.Names.nodes
@@ -53,7 +53,7 @@ sound_all : (a : Agreement) (known : List Entry) → IsSound a × IsEnded a → 
     → IsSound (applied_all a known) × IsEnded (applied_all a known)
 sound_all a [] is few valid = is
 sound_all a (entry ∷ known) is few valid =
-    sound_all (applied a entry) known (IsSound-applied a entry is.0 (omega arith) valid.0, IsEnded-applied a entry is.0 is.1) (omega arith) valid.1
+    sound_all (applied a entry) known (IsSound_applied a entry is.0 (omega arith) valid.0, IsEnded_applied a entry is.0 is.1) (omega arith) valid.1
 
 -- every window's rows and every owner are of shards that such a cluster has
 small_by : (b : Base) → IsBase b → AgreesWithin (six b.cfg) (agreed_by b)
@@ -84,13 +84,13 @@ agreement_by b is =
     let small = small_by b is in
     let valid = all_weaken IsValidEntry HasValidTable b.known (λ entry good. (entry_good b.cfg entry good).0) is.entries in
     let all = sound_all (agreement_from (first_window b.cfg)) b.known
-    (IsSound-first b.cfg.rounds b.cfg.table is.cfg.rounds.0 is.cfg.rounds.1 is.cfg.rows.table, tt) (omega (arith, is.few)) valid in
+    (IsSound_first b.cfg.rounds b.cfg.table is.cfg.rounds.0 is.cfg.rounds.1 is.cfg.rows.table, tt) (omega (arith, is.few)) valid in
     record {
       sound = all.0;
       ended = all.1;
       covered = small.covered;
       small = map_within (six b.cfg) (agreed_by b) small;
-      slots = omega (arith, slots-applied_all (agreement_from (first_window b.cfg)) b.known, is.few);
+      slots = omega (arith, slots_applied_all (agreement_from (first_window b.cfg)) b.known, is.few);
     }
 
 -- ---- the owners of positions
@@ -104,11 +104,11 @@ located_small a p o is e = all_at IsSmall a.covered p o is.covered e
 -- the map reaches no further than this, and so does a local
 pub map_reach : (a : Agreement) → IsAgreement a → length (map_of a) < 2 ^ 39
 map_reach a is =
-    let fits = (IsConsistent-sound a is.sound is.ended).fits in
+    let fits = (IsConsistent_sound a is.sound is.ended).fits in
     omega (arith, fits, is.slots)
 
 pub owner_low : (a : Agreement) (p : ℕ) (o : Owner) → IsAgreement a → mapped a p ≡ Some o → o.local < 2 ^ 39
 owner_low a p o is e =
-    let dense = (IsConsistent-sound a is.sound is.ended).dense o.shard in
-    let below = dense-below (map_of a) o.shard o.local p dense e in
-    omega (arith, below, count_of-le o.shard (map_of a), map_reach a is)
+    let dense = (IsConsistent_sound a is.sound is.ended).dense o.shard in
+    let below = dense_below (map_of a) o.shard o.local p dense e in
+    omega (arith, below, count_of_le o.shard (map_of a), map_reach a is)

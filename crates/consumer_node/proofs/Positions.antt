@@ -7,7 +7,7 @@ use Rattle.std.proofs.lemmas.List.Elements.{All-take, All-from_recursion, recurs
 use Rattle.std.proofs.lemmas.Bool.{cases_Bool, cond-true, cond-false, eq-eqb}
 use Rattle.consumer_node.specs.inside.Names.{Owner, count_of}
 use Rattle.fix_ante.specs.Locals.{locals_of}
-use Rattle.cut_core.proofs.Dense.{IsDense, range_with_len-head}
+use Rattle.cut_core.proofs.Dense.{IsDense, range_with_len_head}
 use Rattle.consumer_node.proofs.Owners.{IsSmall}
 
 -- ---- one owner more
@@ -44,12 +44,12 @@ local_from [] p o shard n count dense e same = absurd (cc)
 local_from (x ∷ os) zero o shard n count dense e same =
     let here : x ≡ o = cc in
     let own : (x.shard == shard) ≡ true = eq-eqb x.shard shard (ap (λ (y : Owner). y.shard) here ∙ same) in
-    let head = range_with_len-head n count x.local (locals_of shard os) (sym (cond-true _ _ _ own) ∙ dense) in
+    let head = range_with_len_head n count x.local (locals_of shard os) (sym (cond-true _ _ _ own) ∙ dense) in
     omega (arith, head.2, ap (λ (y : Owner). y.local) here)
 local_from (x ∷ os) (suc p) o shard n count dense e same =
     elim (cases_Bool (x.shard == shard)) [
       | inl own ↦
-          let head = range_with_len-head n count x.local (locals_of shard os) (sym (cond-true _ _ _ own) ∙ dense) in
+          let head = range_with_len_head n count x.local (locals_of shard os) (sym (cond-true _ _ _ own) ∙ dense) in
           omega (arith, local_from os p o shard (n + 1) head.0 head.3 e same, count_first x (take p os) shard, cond-true {A = ℕ} (x.shard == shard) 1 0 own)
       | inr other ↦
           omega (arith, local_from os p o shard n count (sym (cond-false _ _ _ other) ∙ dense) e same, count_first x (take p os) shard, cond-false {A = ℕ} (x.shard == shard) 1 0 other)

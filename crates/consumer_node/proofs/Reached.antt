@@ -2,7 +2,7 @@
 use Rattle.std.proofs.Common.{◌≡◌, ◌≤◌, List, [], ◌∷◌, ◌++◌, length, refl, sym, ap, ◌∙◌}
 use Rattle.std.specs.List.{AllByRecursion}
 use Rattle.consumer_node.specs.inside.Names.{IsValidRecord, fold_of, Meaning}
-use Rattle.app_law.proofs.Folds.{fold_of-append}
+use Rattle.app_law.proofs.Folds.{fold_of_append}
 use Rattle.node_rules.specs.Names.{Record}
 use Rattle.node_rules.proofs.Lists.{all_append}
 
@@ -24,14 +24,14 @@ pub reached_next : {A : Type 0} (app : Meaning A) (from to : A) (rec : Record) �
 reached_next {A} app from to rec valid reached = record {
   log = reached.log ++ rec ∷ [];
   valid = all_append IsValidRecord reached.log (rec ∷ []) reached.valid (valid, tt);
-  is = ap (λ (s : A). app.next s rec) reached.is ∙ sym (fold_of-append app.next from reached.log (rec ∷ []));
+  is = ap (λ (s : A). app.next s rec) reached.is ∙ sym (fold_of_append app.next from reached.log (rec ∷ []));
 }
 
 pub reached_later : {A : Type 0} (app : Meaning A) (from on to : A) → IsReached app from on → IsReached app on to → IsReached app from to
 reached_later {A} app from on to first second = record {
   log = first.log ++ second.log;
   valid = all_append IsValidRecord first.log second.log first.valid second.valid;
-  is = second.is ∙ (ap (λ (s : A). fold_of app.next s second.log) first.is ∙ sym (fold_of-append app.next from first.log second.log));
+  is = second.is ∙ (ap (λ (s : A). fold_of app.next s second.log) first.is ∙ sym (fold_of_append app.next from first.log second.log));
 }
 
 -- so it is from a later state on

@@ -22,7 +22,7 @@ use Rattle.consumer_node.specs.States.{ConsumerState, applied}
 use Rattle.consumer_node.specs.Rules.{cut_to, undo, notice, on_learned, is_wanted, fetch, fetch_at, on_tick}
 use Rattle.consumer_node.specs.Speculation.{to_apply, apply, apply_all, with_confirmed, confirm_at, finish}
 use Rattle.consumer_node.specs.Steps.{hear, handle, consumer_step}
-use Rattle.consumer_node.proofs.Loops.{to_apply-next, apply-next, apply-none, confirm-counted}
+use Rattle.consumer_node.proofs.Loops.{to_apply_next, apply_next, apply_none, confirm_counted}
 use Rattle.consumer_node.proofs.Places.{Knows, Confirms, HasConfirmed, fetches_wanted, noticed, undone, applied_next, confirmed, written, confirms_oldest, holds_delivered, cuts_off, closes_gone, applies_held, consumer_places, Stage, between_rules, entry_known, removal_shown, undo_done, all_applied, output_due, StagedSites, confirmed_by}
 
 module _ {A : Type 0} (app : Meaning A) (W : Stage → Turn (ConsumerState A) → Type 0) (n : Node (ConsumerState A)) (event : Event) (sites : StagedSites app W n event) where
@@ -90,12 +90,12 @@ module _ {A : Type 0} (app : Meaning A) (W : Stage → Turn (ConsumerState A) �
 
   walk_applies : (recs : List Record) (t : Turn (ConsumerState A)) (next : Option Record) → to_apply t ≡ recs
       → held_for (agreed t) (own_of t) (applied t) ≡ next → W between_rules t → W all_applied (apply_all t)
-  walk_applies recs t None is none w = subst (W all_applied) (apply-none t none) (sites.rules.leaves_none t none w)
-  walk_applies [] t (Some rec) is held w = let more = to_apply-next t rec held in absurd (cc)
+  walk_applies recs t None is none w = subst (W all_applied) (apply_none t none) (sites.rules.leaves_none t none w)
+  walk_applies [] t (Some rec) is held w = let more = to_apply_next t rec held in absurd (cc)
   walk_applies (first ∷ recs) t (Some rec) is held w =
-      let more = to_apply-next t rec held in
+      let more = to_apply_next t rec held in
       let rest : to_apply (apply t rec) ≡ recs = cc in
-      subst (W all_applied) (apply-next t rec held) (walk_applies recs (apply t rec) _ rest refl (sites.rules.applies t rec held w))
+      subst (W all_applied) (apply_next t rec held) (walk_applies recs (apply t rec) _ rest refl (sites.rules.applies t rec held w))
 
   walk_confirm_at : (rec : Record) (o : Owner) (t : Turn (ConsumerState A)) → Confirms t.state rec o → W all_applied t → W all_applied (confirm_at app rec o t)
   walk_confirm_at rec o t why w =
@@ -119,7 +119,7 @@ module _ {A : Type 0} (app : Meaning A) (W : Stage → Turn (ConsumerState A) �
   walk_finish t w =
       let after : Turn (ConsumerState A) = apply_all t in
       let count : ℕ = min 3 (length (agreed after).covered - (own_of after).confirmed) in
-      subst (W all_applied) (confirm-counted app after) (walk_confirm_count count after (walk_applies (to_apply t) t _ refl refl w))
+      subst (W all_applied) (confirm_counted app after) (walk_confirm_count count after (walk_applies (to_apply t) t _ refl refl w))
 
 -- what an event does by itself
 pub staged_handle : {A : Type 0} (app : Meaning A) (W : Stage → Turn (ConsumerState A) → Type 0) (n : Node (ConsumerState A)) (event : Event)

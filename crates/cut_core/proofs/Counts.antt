@@ -10,52 +10,52 @@ use Rattle.fix_ante.specs.declared.spots.Owner.{Owner}
 use Rattle.fix_ante.specs.Windows.{rows_of, has_row, start_after}
 use Rattle.fix_ante.specs.Layout.{rounds_from}
 use Rattle.fix_ante.specs.Locals.{locals_of, quota_of}
-use Rattle.fix_ante.proofs.Successors.{has_row-rows_of}
-use Rattle.fix_ante.proofs.LocalLemmas.{range_with_len-append, locals_of-append, locals_of-rounds_from, absent_row}
+use Rattle.fix_ante.proofs.Successors.{has_row_rows_of}
+use Rattle.fix_ante.proofs.LocalLemmas.{range_with_len_append, locals_of_append, locals_of_rounds_from, absent_row}
 use Rattle.cut_core.specs.Agreements.{Gone, count_of}
 
 -- a shard that is no row has no positions in a round
-pub quota_of-absent : (spots : List Spot) (shard : ℕ) → has_row shard spots ≡ false → quota_of spots shard ≡ 0
-quota_of-absent spots shard h = (absent_row spots 0 shard (sym (has_row-rows_of shard spots) ∙ h)).0
+pub quota_of_absent : (spots : List Spot) (shard : ℕ) → has_row shard spots ≡ false → quota_of spots shard ≡ 0
+quota_of_absent spots shard h = (absent_row spots 0 shard (sym (has_row_rows_of shard spots) ∙ h)).0
 
 -- and its locals begin at 0
-pub start_after-absent : (spots : List Spot) (rounds shard : ℕ) → has_row shard spots ≡ false → start_after spots rounds shard ≡ 0
-start_after-absent spots rounds shard h = (absent_row spots rounds shard (sym (has_row-rows_of shard spots) ∙ h)).1
+pub start_after_absent : (spots : List Spot) (rounds shard : ℕ) → has_row shard spots ≡ false → start_after spots rounds shard ≡ 0
+start_after_absent spots rounds shard h = (absent_row spots rounds shard (sym (has_row_rows_of shard spots) ∙ h)).1
 
 -- some rounds more
-pub locals_of-more : (shard : ℕ) (owners : List Owner) (spots : List Spot) (round count : ℕ) → is_distinct (rows_of spots) ≡ true
+pub locals_of_more : (shard : ℕ) (owners : List Owner) (spots : List Spot) (round count : ℕ) → is_distinct (rows_of spots) ≡ true
     → locals_of shard (owners ++ rounds_from spots round count) ≡ locals_of shard owners ++ range_with_len (start_after spots round shard) (count * quota_of spots shard)
-locals_of-more shard owners spots round count distinct =
-    locals_of-append shard owners (rounds_from spots round count) ∙ ap (λ t. locals_of shard owners ++ t) (locals_of-rounds_from spots round count shard distinct)
+locals_of_more shard owners spots round count distinct =
+    locals_of_append shard owners (rounds_from spots round count) ∙ ap (λ t. locals_of shard owners ++ t) (locals_of_rounds_from spots round count shard distinct)
 
-pub count_of-more : (shard : ℕ) (owners : List Owner) (spots : List Spot) (round count : ℕ) → is_distinct (rows_of spots) ≡ true
+pub count_of_more : (shard : ℕ) (owners : List Owner) (spots : List Spot) (round count : ℕ) → is_distinct (rows_of spots) ≡ true
     → count_of shard (owners ++ rounds_from spots round count) ≡ count_of shard owners + count * quota_of spots shard
-count_of-more shard owners spots round count distinct =
-    ap length (locals_of-more shard owners spots round count distinct)
+count_of_more shard owners spots round count distinct =
+    ap length (locals_of_more shard owners spots round count distinct)
     ∙ length-append (locals_of shard owners) (range_with_len (start_after spots round shard) (count * quota_of spots shard))
     ∙ ap (λ n. count_of shard owners + n) (length-range_with_len (start_after spots round shard) (count * quota_of spots shard))
 
 -- numbers without a gap stay so where the next go on
-pub dense-more : (have next : List ℕ) (from count : ℕ) → have ≡ range_with_len 0 (length have) → next ≡ range_with_len from count → from ≡ length have
+pub dense_more : (have next : List ℕ) (from count : ℕ) → have ≡ range_with_len 0 (length have) → next ≡ range_with_len from count → from ≡ length have
     → have ++ next ≡ range_with_len 0 (length (have ++ next))
-dense-more have next from count dense is goes =
+dense_more have next from count dense is goes =
     let size : length (have ++ next) ≡ length have + count = length-append have next ∙ ap (λ n. length have + n) (ap length is ∙ length-range_with_len from count) in
     let at : 0 + length have ≡ length have = omega arith in
     ap (λ t. have ++ t) (is ∙ ap (λ n. range_with_len n count) (goes ∙ sym at))
     ∙ ap (λ t. t ++ range_with_len (0 + length have) count) dense
-    ∙ range_with_len-append 0 (length have) count
+    ∙ range_with_len_append 0 (length have) count
     ∙ ap (range_with_len 0) (sym size)
 
 -- nothing more leaves them as they are
-pub dense-none : (have next : List ℕ) → have ≡ range_with_len 0 (length have) → next ≡ [] → have ++ next ≡ range_with_len 0 (length (have ++ next))
-dense-none have next dense none =
+pub dense_none : (have next : List ℕ) → have ≡ range_with_len 0 (length have) → next ≡ [] → have ++ next ≡ range_with_len 0 (length (have ++ next))
+dense_none have next dense none =
     let all : have ++ next ≡ have = ap (λ t. have ++ t) none ∙ append-nil have in
     all ∙ (dense ∙ ap (λ t. range_with_len 0 (length t)) (sym all))
 
 -- one of two lists of gone shards
-pub gone-append : (shard : ℕ) (xs ys : List Gone)
+pub gone_append : (shard : ℕ) (xs ys : List Gone)
     → list_any (λ (g : Gone). g.shard == shard) (xs ++ ys) ≡ (list_any (λ (g : Gone). g.shard == shard) xs || list_any (λ (g : Gone). g.shard == shard) ys)
-gone-append shard xs ys = list_any-append (λ (g : Gone). g.shard == shard) xs ys
+gone_append shard xs ys = list_any-append (λ (g : Gone). g.shard == shard) xs ys
 
 -- a shard that no entry of a list of rows drops, though it is a row, passes the test
 pub kept_row : (test : Spot → Bool) (end : Spot → ℕ) (spots : List Spot) (shard : ℕ) → ((s : Spot) → (s.shard == shard) ≡ true → test s ≡ true)

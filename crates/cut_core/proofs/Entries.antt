@@ -11,15 +11,15 @@ use Rattle.fix_ante.specs.Windows.{Window, rows_of, row_of, has_row, start_after
 use Rattle.fix_ante.specs.Layout.{place_of}
 use Rattle.fix_ante.specs.Positions.{owner_among}
 use Rattle.fix_ante.specs.Moves.{first_failed_of}
-use Rattle.fix_ante.proofs.PositionLemmas.{place_of-owner, owner_of-round}
+use Rattle.fix_ante.proofs.PositionLemmas.{place_of_owner, owner_of_round}
 use Rattle.cut_core.specs.declared.agreed.Agreed.TheInside.{Inside}
 use Rattle.cut_core.specs.Agreements.{Agreement, Gone, count_of, is_last_round}
 use Rattle.cut_core.specs.Fold.{with_round, dropped_rows, opened, after_remove}
 use Rattle.cut_core.specs.Soundness.{MayBeGrant, IsGrant, IsSound, HasFinalEnds}
 use Rattle.cut_core.specs.inside.Kept.{agreement_of, IsAgreed, followed, local_end}
-use Rattle.cut_core.proofs.Kept.{IsSound-opened, IsSound-remove}
-use Rattle.cut_core.proofs.Ends.{ends-table, row-within, ends-round, local_end-round, local_end-sound, final-rows, HasFinalEnds-removed}
-use Rattle.cut_core.proofs.Follows.{followed-opened, followed-removed}
+use Rattle.cut_core.proofs.Kept.{IsSound_opened, IsSound_remove}
+use Rattle.cut_core.proofs.Ends.{ends_table, row_within, ends_round, local_end_round, local_end_sound, final_rows, HasFinalEnds_removed}
+use Rattle.cut_core.proofs.Follows.{followed_opened, followed_removed}
 
 -- ---- the granted window is opened
 
@@ -42,16 +42,16 @@ opens a w rounds ends gone is final grant all last table left =
     let b = with_round a in
     let after : Agreement = record (opened b w) { slots = a.slots + 1 } in
     let counts : (shard : ℕ) → shard < 6 → get_or ends shard 0 ≡ count_of shard b.covered = λ shard below.
-    table shard below ∙ ap (λ n. local_end a.current.spots n a.gone shard) (all ∙ sym last) ∙ local_end-round a shard is final in
+    table shard below ∙ ap (λ n. local_end a.current.spots n a.gone shard) (all ∙ sym last) ∙ local_end_round a shard is final in
     let dropped : dropped_by ends a w ≡ dropped_rows b w =
-    ends-table ends (λ s. count_of s b.covered) (λ (s : Spot). not (has_row s.shard w.spots)) a.current.spots is.window.table.within counts in
+    ends_table ends (λ s. count_of s b.covered) (λ (s : Spot). not (has_row s.shard w.spots)) a.current.spots is.window.table.within counts in
     let view : followed a rounds w gone ≡ after =
-    ap (λ gs. followed a rounds w gs) (left ∙ ap (λ t. a.gone ++ t) dropped) ∙ ap (λ n. followed a n w (a.gone ++ dropped_rows b w)) all ∙ followed-opened a w last in
-    let settled : HasFinalEnds after = final-rows a after (λ (s : Spot). not (has_row s.shard w.spots)) is final refl (ends-round a is final) in
+    ap (λ gs. followed a rounds w gs) (left ∙ ap (λ t. a.gone ++ t) dropped) ∙ ap (λ n. followed a n w (a.gone ++ dropped_rows b w)) all ∙ followed_opened a w last in
+    let settled : HasFinalEnds after = final_rows a after (λ (s : Spot). not (has_row s.shard w.spots)) is final refl (ends_round a is final) in
     record {
       view = view;
       counts = λ shard below. counts shard below ∙ ap (λ (x : Agreement). count_of shard x.covered) (sym view);
-      sound = subst IsSound (sym view) (IsSound-opened a w is grant last);
+      sound = subst IsSound (sym view) (IsSound_opened a w is grant last);
       settled = subst HasFinalEnds (sym view) settled;
     }
 
@@ -70,24 +70,24 @@ pub removes : (a : Agreement) (shard : ℕ) (next : Window) (ends : List ℕ) (g
     → gone ≡ a.gone ++ record { shard = shard; end = get_or ends shard 0 } ∷ [] → Removes a shard next ends gone
 removes a shard next ends gone is final few row another below table is_next left =
     let after : Agreement = record (after_remove a shard) { slots = a.slots + 1 } in
-    let counts : (s : ℕ) → s < 6 → get_or ends s 0 ≡ count_of s a.covered = λ s h. table s h ∙ local_end-sound a s is final in
+    let counts : (s : ℕ) → s < 6 → get_or ends s 0 ≡ count_of s a.covered = λ s h. table s h ∙ local_end_sound a s is final in
     let one : ℕ → List Gone = λ end. a.gone ++ record { shard = shard; end = end } ∷ [] in
     let view : followed a a.rounds next gone ≡ after =
     ap (λ w. followed a a.rounds w gone) is_next
     ∙ ap (followed a a.rounds (without_of a.current (a.slots + 1) a.rounds shard)) (left ∙ ap one (counts shard below))
-    ∙ followed-removed a shard in
+    ∙ followed_removed a shard in
     record {
       view = view;
       counts = λ s h. counts s h ∙ ap (λ (x : Agreement). count_of s x.covered) (sym view);
-      sound = subst IsSound (sym view) (IsSound-remove a shard is few row another);
-      settled = subst HasFinalEnds (sym view) (HasFinalEnds-removed a after shard is final row refl refl);
+      sound = subst IsSound (sym view) (IsSound_remove a shard is few row another);
+      settled = subst HasFinalEnds (sym view) (HasFinalEnds_removed a after shard is final row refl refl);
     }
 
 -- the shard's next local has the first place of a round that it can have
-owner_among-first : (spots : List Spot) (round shard : ℕ) → list_all is_row (rows_of spots) ≡ true → has_row shard spots ≡ true
+owner_among_first : (spots : List Spot) (round shard : ℕ) → list_all is_row (rows_of spots) ≡ true → has_row shard spots ≡ true
     → (quotas_before (rows_of spots) shard < quotas_of (rows_of spots)) × (owner_among spots round (quotas_before (rows_of spots) shard) ≡ Some (record { shard = shard; local = start_after spots round shard }))
-owner_among-first [] round shard within row = absurd (cc)
-owner_among-first (s ∷ ss) round shard within row =
+owner_among_first [] round shard within row = absurd (cc)
+owner_among_first (s ∷ ss) round shard within row =
     let parts = and_parts (is_row (row_of s)) (list_all is_row (rows_of ss)) within in
     let some = ltb-true 0 s.quota ((and_parts (nat_lt 0 s.quota) _ ((and_parts (nat_lt s.shard 6) _ parts.0).1)).0) in
     let owner : ℕ → ℕ → Option Owner = λ t l. Some (record { shard = t; local = l }) in
@@ -102,21 +102,21 @@ owner_among-first (s ∷ ss) round shard within row =
           let before : quotas_before (rows_of (s ∷ ss)) shard ≡ s.quota + quotas_before (rows_of ss) shard = cond-false _ _ _ other in
           let start : start_after (s ∷ ss) round shard ≡ start_after ss round shard = cond-false _ _ _ other in
           let later : has_row shard ss ≡ true = elim (or_cases _ _ row) [ inl same ↦ absurd (both_ways _ other same) | inr found ↦ found ] in
-          let rest = owner_among-first ss round shard parts.1 later in
+          let rest = owner_among_first ss round shard parts.1 later in
           let at : s.quota + quotas_before (rows_of ss) shard - s.quota ≡ quotas_before (rows_of ss) shard = omega arith in
           let past : owner_among (s ∷ ss) round (s.quota + quotas_before (rows_of ss) shard) ≡ owner_among ss round (s.quota + quotas_before (rows_of ss) shard - s.quota) = cond-false _ _ _ (le-ltb (s.quota + quotas_before (rows_of ss) shard) s.quota (omega arith)) in
           (omega (arith, before, rest.0), ap (owner_among (s ∷ ss) round) before ∙ (past ∙ (ap (owner_among ss round) at ∙ (rest.1 ∙ ap (owner shard) (sym start)))))
     ]
 
 -- the first local of a row that isn't covered has the first failed position
-pub place_of-first_failed : (a : Agreement) (shard local : ℕ) → IsSound a → has_row shard a.current.spots ≡ true
+pub place_of_first_failed : (a : Agreement) (shard local : ℕ) → IsSound a → has_row shard a.current.spots ≡ true
     → local ≡ start_after a.current.spots a.rounds shard → place_of a.current shard local ≡ Some (first_failed_of a.current a.rounds shard)
-place_of-first_failed a shard local is row at =
+place_of_first_failed a shard local is row at =
     let w = a.current in
-    let first = owner_among-first w.spots a.rounds shard is.window.table.within row in
+    let first = owner_among_first w.spots a.rounds shard is.window.table.within row in
     let o : Owner = record { shard = shard; local = start_after w.spots a.rounds shard } in
-    let owner = owner_of-round w a.rounds (quotas_before (rows_of w.spots) shard) is.short first.0 ∙ first.1 in
-    ap (place_of w shard) at ∙ (place_of-owner w (first_failed_of w a.rounds shard) o is.window owner).2
+    let owner = owner_of_round w a.rounds (quotas_before (rows_of w.spots) shard) is.short first.0 ∙ first.1 in
+    ap (place_of w shard) at ∙ (place_of_owner w (first_failed_of w a.rounds shard) o is.window owner).2
 
 -- ---- the same from the fields
 
@@ -144,18 +144,18 @@ removes_from i a shard next ends gone kept view is few row another same table is
     let rows = ap (λ (x : Agreement). length x.current.spots) view in
     let its : has_row shard b.current.spots ≡ true = ap (λ (x : Agreement). has_row shard x.current.spots) view ∙ row in
     subst (λ (x : Agreement). Removes x shard next ends gone) view
-    (removes b shard next ends gone is.sound is.final (omega arith) its (omega arith) (row-within b.current.spots shard is.sound.window.table.within its) (λ s below. table s below ∙ ap (λ gs. local_end i.current.spots i.rounds gs s) same) is_next left)
+    (removes b shard next ends gone is.sound is.final (omega arith) its (omega arith) (row_within b.current.spots shard is.sound.window.table.within its) (λ s below. table s below ∙ ap (λ gs. local_end i.current.spots i.rounds gs s) same) is_next left)
 
 -- the position that the shard's end has in the window
-pub place_of-end : (i : Inside) (a : Agreement) (shard local : ℕ) (ends : List ℕ) (kept : List Gone) → agreement_of i ≡ a → IsAgreed i
+pub place_of_end : (i : Inside) (a : Agreement) (shard local : ℕ) (ends : List ℕ) (kept : List Gone) → agreement_of i ≡ a → IsAgreed i
     → has_row shard a.current.spots ≡ true → kept ≡ i.gone.items
     → ((s : ℕ) → s < 6 → get_or ends s 0 ≡ local_end i.current.spots i.rounds kept s) → local ≡ get_or ends shard 0
     → place_of i.current shard local ≡ Some (first_failed_of a.current a.rounds shard)
-place_of-end i a shard local ends kept view is row same table at =
+place_of_end i a shard local ends kept view is row same table at =
     let b = agreement_of i in
     let its : has_row shard b.current.spots ≡ true = ap (λ (x : Agreement). has_row shard x.current.spots) view ∙ row in
-    let below = row-within b.current.spots shard is.sound.window.table.within its in
+    let below = row_within b.current.spots shard is.sound.window.table.within its in
     let counted : local ≡ count_of shard b.covered =
-    at ∙ table shard below ∙ ap (λ gs. local_end i.current.spots i.rounds gs shard) same ∙ local_end-sound b shard is.sound is.final in
+    at ∙ table shard below ∙ ap (λ gs. local_end i.current.spots i.rounds gs shard) same ∙ local_end_sound b shard is.sound is.final in
     let start : local ≡ start_after i.current.spots i.rounds shard = counted ∙ sym (is.sound.starts shard (is.sound.rows shard its)) in
-    place_of-first_failed b shard local is.sound its start ∙ ap (λ (x : Agreement). Some (first_failed_of x.current x.rounds shard)) view
+    place_of_first_failed b shard local is.sound its start ∙ ap (λ (x : Agreement). Some (first_failed_of x.current x.rounds shard)) view

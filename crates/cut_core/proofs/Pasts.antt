@@ -10,7 +10,7 @@ use Rattle.std.proofs.lemmas.List.Concat.{flat_map-append}
 use Rattle.std.proofs.lemmas.Option.{slice_get-get_or, slice_get_within, slice_get_cases, get_or_from_slice_get}
 use Rattle.fix_ante.specs.declared.spots.Owner.{Owner}
 use Rattle.fix_ante.specs.Windows.{width_of}
-use Rattle.fix_ante.proofs.LayoutLemmas.{length-rounds_from}
+use Rattle.fix_ante.proofs.LayoutLemmas.{length_rounds_from}
 use Rattle.cut_core.specs.declared.past.Past.{Past}
 use Rattle.cut_core.specs.inside.Kept.{owners_in, numbers_in}
 
@@ -19,45 +19,45 @@ abbrev pub covered_by : ℕ → List Past → List Owner
 covered_by count past = flat_map owners_in (take count past)
 
 -- one window more
-pub covered_by-more : (past : List Past) (at : ℕ) (p : Past) → slice_get past at ≡ Some p → covered_by (suc at) past ≡ covered_by at past ++ owners_in p
-covered_by-more [] at p e = absurd (cc)
-covered_by-more (q ∷ qs) zero p e =
+pub covered_by_more : (past : List Past) (at : ℕ) (p : Past) → slice_get past at ≡ Some p → covered_by (suc at) past ≡ covered_by at past ++ owners_in p
+covered_by_more [] at p e = absurd (cc)
+covered_by_more (q ∷ qs) zero p e =
     let same : q ≡ p = cc in
     append-nil (owners_in q) ∙ ap owners_in same
-covered_by-more (q ∷ qs) (suc at) p e =
-    ap (λ t. owners_in q ++ t) (covered_by-more qs at p e) ∙ sym (append_assoc (owners_in q) (covered_by at qs) (owners_in p))
+covered_by_more (q ∷ qs) (suc at) p e =
+    ap (λ t. owners_in q ++ t) (covered_by_more qs at p e) ∙ sym (append_assoc (owners_in q) (covered_by at qs) (owners_in p))
 
 -- the windows before one, the one, and those after it
-pub covered_by-split : (past : List Past) (at : ℕ) (p : Past) → slice_get past at ≡ Some p
+pub covered_by_split : (past : List Past) (at : ℕ) (p : Past) → slice_get past at ≡ Some p
     → flat_map owners_in past ≡ covered_by at past ++ (owners_in p ++ flat_map owners_in (drop (suc at) past))
-covered_by-split [] at p e = absurd (cc)
-covered_by-split (q ∷ qs) zero p e =
+covered_by_split [] at p e = absurd (cc)
+covered_by_split (q ∷ qs) zero p e =
     let same : q ≡ p = cc in
     ap (λ x. owners_in x ++ flat_map owners_in qs) same
-covered_by-split (q ∷ qs) (suc at) p e =
-    ap (λ t. owners_in q ++ t) (covered_by-split qs at p e) ∙ sym (append_assoc (owners_in q) (covered_by at qs) (owners_in p ++ flat_map owners_in (drop (suc at) qs)))
+covered_by_split (q ∷ qs) (suc at) p e =
+    ap (λ t. owners_in q ++ t) (covered_by_split qs at p e) ∙ sym (append_assoc (owners_in q) (covered_by at qs) (owners_in p ++ flat_map owners_in (drop (suc at) qs)))
 
 -- all of them
-pub covered_by-all : (past : List Past) → covered_by (length past) past ≡ flat_map owners_in past
-covered_by-all past = ap (flat_map owners_in) (take_all (length past) past (omega arith))
+pub covered_by_all : (past : List Past) → covered_by (length past) past ≡ flat_map owners_in past
+covered_by_all past = ap (flat_map owners_in) (take_all (length past) past (omega arith))
 
 -- a window's number stands at each of its positions
-length-in : (p : Past) → length (numbers_in p) ≡ length (owners_in p)
-length-in p = omega (arith, length-replicate {A = ℕ} (p.rounds * width_of p.window) p.window.number, length-rounds_from p.window.spots 0 p.rounds)
+length_in : (p : Past) → length (numbers_in p) ≡ length (owners_in p)
+length_in p = omega (arith, length-replicate {A = ℕ} (p.rounds * width_of p.window) p.window.number, length_rounds_from p.window.spots 0 p.rounds)
 
-pub length-numbers_in : (past : List Past) → length (flat_map numbers_in past) ≡ length (flat_map owners_in past)
-length-numbers_in [] = refl
-length-numbers_in (p ∷ ps) =
-    omega (arith, length-append (numbers_in p) (flat_map numbers_in ps), length-append (owners_in p) (flat_map owners_in ps), length-in p, length-numbers_in ps)
+pub length_numbers_in : (past : List Past) → length (flat_map numbers_in past) ≡ length (flat_map owners_in past)
+length_numbers_in [] = refl
+length_numbers_in (p ∷ ps) =
+    omega (arith, length-append (numbers_in p) (flat_map numbers_in ps), length-append (owners_in p) (flat_map owners_in ps), length_in p, length_numbers_in ps)
 
-pub numbers_by-split : (past : List Past) (at : ℕ) (p : Past) → slice_get past at ≡ Some p
+pub numbers_by_split : (past : List Past) (at : ℕ) (p : Past) → slice_get past at ≡ Some p
     → flat_map numbers_in past ≡ flat_map numbers_in (take at past) ++ (numbers_in p ++ flat_map numbers_in (drop (suc at) past))
-numbers_by-split [] at p e = absurd (cc)
-numbers_by-split (q ∷ qs) zero p e =
+numbers_by_split [] at p e = absurd (cc)
+numbers_by_split (q ∷ qs) zero p e =
     let same : q ≡ p = cc in
     ap (λ x. numbers_in x ++ flat_map numbers_in qs) same
-numbers_by-split (q ∷ qs) (suc at) p e =
-    ap (λ t. numbers_in q ++ t) (numbers_by-split qs at p e) ∙ sym (append_assoc (numbers_in q) (flat_map numbers_in (take at qs)) (numbers_in p ++ flat_map numbers_in (drop (suc at) qs)))
+numbers_by_split (q ∷ qs) (suc at) p e =
+    ap (λ t. numbers_in q ++ t) (numbers_by_split qs at p e) ∙ sym (append_assoc (numbers_in q) (flat_map numbers_in (take at qs)) (numbers_in p ++ flat_map numbers_in (drop (suc at) qs)))
 
 -- ---- a search among the windows, by a measure that grows with the owners
 
@@ -74,7 +74,7 @@ key_at : (measure : List Owner → ℕ) (key : Past → ℕ) (past : List Past) 
     → key (get_or past at d) ≡ measure (covered_by (suc at) past)
 key_at measure key past at d keys below =
     let e = slice_get-get_or past at d below in
-    keys at (get_or past at d) e ∙ ap measure (sym (covered_by-more past at (get_or past at d) e))
+    keys at (get_or past at d) e ∙ ap measure (sym (covered_by_more past at (get_or past at d) e))
 
 grown : (measure : List Owner → ℕ) (past : List Past) (i j : ℕ) → Grows measure → i ≤ j → measure (covered_by i past) ≤ measure (covered_by j past)
 grown measure past i j grows le =
@@ -120,7 +120,7 @@ low_at measure key past value (suc k) grows keys bound passes =
     elim ((slice_get_cases past k).1) [
       | inl there ↦
           let low = leb-true (key (get_or past k there.0)) value (passes k there.0 (omega arith) (omega arith)) in
-          let next = covered_by-more past k there.0 there.2 in
+          let next = covered_by_more past k there.0 there.2 in
           omega (arith, ap key there.3, keys k there.0 there.2, ap measure next)
       | inr over ↦ absurd (omega (arith, over.0))
     ]

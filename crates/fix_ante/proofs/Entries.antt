@@ -7,18 +7,18 @@ use Rattle.fix_ante.specs.declared.spots.Owner.{Owner}
 use Rattle.fix_ante.specs.Layout.{index_of}
 
 -- an entry of the first of two lists
-pub slice_get-append_left : {X : Type 0} (xs ys : List X) (i : ℕ) → i < length xs → slice_get (xs ++ ys) i ≡ slice_get xs i
-slice_get-append_left [] ys i h = absurd (omega arith)
-slice_get-append_left (x ∷ xs) ys zero h = refl
-slice_get-append_left (x ∷ xs) ys (suc i) h = slice_get-append_left xs ys i (omega arith)
+pub slice_get_append_left : {X : Type 0} (xs ys : List X) (i : ℕ) → i < length xs → slice_get (xs ++ ys) i ≡ slice_get xs i
+slice_get_append_left [] ys i h = absurd (omega arith)
+slice_get_append_left (x ∷ xs) ys zero h = refl
+slice_get_append_left (x ∷ xs) ys (suc i) h = slice_get_append_left xs ys i (omega arith)
 
 -- an entry of the second, past the first
-pub slice_get-append_right : {X : Type 0} (xs ys : List X) (n i : ℕ) → length xs ≡ n → slice_get (xs ++ ys) (n + i) ≡ slice_get ys i
-slice_get-append_right [] ys n i e = let at : n + i ≡ i = omega arith in ap (slice_get ys) at
-slice_get-append_right (x ∷ xs) ys zero i e = absurd (omega arith)
-slice_get-append_right (x ∷ xs) ys (suc n) i e =
+pub slice_get_append_right : {X : Type 0} (xs ys : List X) (n i : ℕ) → length xs ≡ n → slice_get (xs ++ ys) (n + i) ≡ slice_get ys i
+slice_get_append_right [] ys n i e = let at : n + i ≡ i = omega arith in ap (slice_get ys) at
+slice_get_append_right (x ∷ xs) ys zero i e = absurd (omega arith)
+slice_get_append_right (x ∷ xs) ys (suc n) i e =
     let at : suc n + i ≡ suc (n + i) = omega arith in
-    ap (slice_get ((x ∷ xs) ++ ys)) at ∙ slice_get-append_right xs ys n i (omega arith)
+    ap (slice_get ((x ∷ xs) ++ ys)) at ∙ slice_get_append_right xs ys n i (omega arith)
 
 -- two owners with one shard and one local
 same_owner : (o : Owner) (shard local : ℕ) → ((o.shard == shard) && (o.local == local)) ≡ true → o ≡ record { shard = shard; local = local }

@@ -10,26 +10,26 @@ use Rattle.fix_ante.specs.declared.spots.Spot.{Spot}
 use Rattle.fix_ante.specs.Windows.{Window, IsWindow, IsSpot, rows_of, spots_from, first_of}
 
 -- giving the rows starts leaves the rows
-pub rows_of-spots_from : (start : ℕ → ℕ) (rows : List Row) → rows_of (spots_from start rows) ≡ rows
-rows_of-spots_from start [] = refl
-rows_of-spots_from start (r ∷ rs) = ap (λ t. r ∷ t) (rows_of-spots_from start rs)
+pub rows_of_spots_from : (start : ℕ → ℕ) (rows : List Row) → rows_of (spots_from start rows) ≡ rows
+rows_of_spots_from start [] = refl
+rows_of_spots_from start (r ∷ rs) = ap (λ t. r ∷ t) (rows_of_spots_from start rs)
 
 -- starts that are all within a bound are so in the rows
-pub starts-spots_from : (start : ℕ → ℕ) (bound : ℕ) (rows : List Row) → ((shard : ℕ) → start shard ≤ bound)
+pub starts_spots_from : (start : ℕ → ℕ) (bound : ℕ) (rows : List Row) → ((shard : ℕ) → start shard ≤ bound)
     → list_all (λ (s : Spot). nat_le s.start bound) (spots_from start rows) ≡ true
-starts-spots_from start bound [] h = refl
-starts-spots_from start bound (r ∷ rs) h =
+starts_spots_from start bound [] h = refl
+starts_spots_from start bound (r ∷ rs) h =
     let here = h r.shard in
-    let rest = starts-spots_from start bound rs h in
+    let rest = starts_spots_from start bound rs h in
     grind (arith, nat_tests)
 
-pub IsWindow-first_of : (rounds : ℕ) (rows : List Row) → 1 ≤ rounds → rounds ≤ 1024 → IsTable rows → IsWindow (first_of rounds rows)
-IsWindow-first_of rounds rows some most table = record {
+pub IsWindow_first_of : (rounds : ℕ) (rows : List Row) → 1 ≤ rounds → rounds ≤ 1024 → IsTable rows → IsWindow (first_of rounds rows)
+IsWindow_first_of rounds rows some most table = record {
   base = omega arith;
   some = some;
   most = most;
-  table = subst IsTable (sym (rows_of-spots_from (λ _. 0) rows)) table;
-  starts = starts-spots_from (λ _. 0) 0 rows (λ _. omega arith);
+  table = subst IsTable (sym (rows_of_spots_from (λ _. 0) rows)) table;
+  starts = starts_spots_from (λ _. 0) 0 rows (λ _. omega arith);
 }
 
 spot_within : (base : ℕ) (s : Spot) (ss : List Spot) → list_all is_row (rows_of (s ∷ ss)) ≡ true → list_all (λ (t : Spot). nat_le t.start base) (s ∷ ss) ≡ true
@@ -37,15 +37,15 @@ spot_within : (base : ℕ) (s : Spot) (ss : List Spot) → list_all is_row (rows
 spot_within base s ss within starts = grind (arith, nat_tests)
 
 -- each row of a list within the limits is within them
-pub IsSpot-each : (base : ℕ) (spots : List Spot) → list_all is_row (rows_of spots) ≡ true → list_all (λ (t : Spot). nat_le t.start base) spots ≡ true
+pub IsSpot_each : (base : ℕ) (spots : List Spot) → list_all is_row (rows_of spots) ≡ true → list_all (λ (t : Spot). nat_le t.start base) spots ≡ true
     → All (IsSpot base) spots
-IsSpot-each base [] within starts = All-nil (IsSpot base)
-IsSpot-each base (s ∷ ss) within starts =
+IsSpot_each base [] within starts = All-nil (IsSpot base)
+IsSpot_each base (s ∷ ss) within starts =
     let here = spot_within base s ss within starts in
     All-cons (IsSpot base) s ss
     (record { shard = here.0; some = here.1; most = here.2; start = here.3 })
-    (IsSpot-each base ss here.4 here.5)
+    (IsSpot_each base ss here.4 here.5)
 
 -- each row of a window is a row
-pub IsWindow-spots : (w : Window) → IsWindow w → All (IsSpot w.base) w.spots
-IsWindow-spots w is = IsSpot-each w.base w.spots is.table.within is.starts
+pub IsWindow_spots : (w : Window) → IsWindow w → All (IsSpot w.base) w.spots
+IsWindow_spots w is = IsSpot_each w.base w.spots is.table.within is.starts

@@ -10,26 +10,26 @@ use Rattle.gate_vault.specs.inside.Writes.{WrittenOver}
 abbrev pub body : List (List ℕ) → List ℕ
 body entries = head ++ frames entries
 
-pub length-body : (entries : List (List ℕ)) → length (body entries) ≡ gate_after entries
-length-body entries = length-append head (frames entries)
+pub length_body : (entries : List (List ℕ)) → length (body entries) ≡ gate_after entries
+length_body entries = length-append head (frames entries)
 
-pub length-payload : (entry : List ℕ) → length (payload entry) ≡ 2 + length entry
-length-payload entry = omega arith
+pub length_payload : (entry : List ℕ) → length (payload entry) ≡ 2 + length entry
+length_payload entry = omega arith
 
-frames-append : (entries : List (List ℕ)) (entry : List ℕ) → frames (entries ++ entry ∷ []) ≡ frames entries ++ 1 ∷ payload entry
-frames-append [] entry = append-nil (1 ∷ payload entry)
-frames-append (first ∷ entries) entry = ap (λ (l : List ℕ). 1 ∷ payload first ++ l) (frames-append entries entry) ∙ sym (append_assoc (1 ∷ payload first) (frames entries) (1 ∷ payload entry))
+frames_append : (entries : List (List ℕ)) (entry : List ℕ) → frames (entries ++ entry ∷ []) ≡ frames entries ++ 1 ∷ payload entry
+frames_append [] entry = append-nil (1 ∷ payload entry)
+frames_append (first ∷ entries) entry = ap (λ (l : List ℕ). 1 ∷ payload first ++ l) (frames_append entries entry) ∙ sym (append_assoc (1 ∷ payload first) (frames entries) (1 ∷ payload entry))
 
-pub body-append : (entries : List (List ℕ)) (entry : List ℕ) → body (entries ++ entry ∷ []) ≡ body entries ++ 1 ∷ payload entry
-body-append entries entry = ap (λ (l : List ℕ). head ++ l) (frames-append entries entry) ∙ sym (append_assoc head (frames entries) (1 ∷ payload entry))
+pub body_append : (entries : List (List ℕ)) (entry : List ℕ) → body (entries ++ entry ∷ []) ≡ body entries ++ 1 ∷ payload entry
+body_append entries entry = ap (λ (l : List ℕ). head ++ l) (frames_append entries entry) ∙ sym (append_assoc head (frames entries) (1 ∷ payload entry))
 
-pub gate_after-append : (entries : List (List ℕ)) (entry : List ℕ) → gate_after (entries ++ entry ∷ []) ≡ gate_after entries + (3 + length entry)
-gate_after-append entries entry =
-    omega (arith, ap length (frames-append entries entry), length-append (frames entries) (1 ∷ payload entry))
+pub gate_after_append : (entries : List (List ℕ)) (entry : List ℕ) → gate_after (entries ++ entry ∷ []) ≡ gate_after entries + (3 + length entry)
+gate_after_append entries entry =
+    omega (arith, ap length (frames_append entries entry), length-append (frames entries) (1 ∷ payload entry))
 
-pub areshort-append : (entries : List (List ℕ)) (entry : List ℕ) → AreShort entries → length entry ≤ 4096 → AreShort (entries ++ entry ∷ [])
-areshort-append [] entry short le = (le, tt)
-areshort-append (first ∷ entries) entry short le = (short.0, areshort-append entries entry short.1 le)
+pub areshort_append : (entries : List (List ℕ)) (entry : List ℕ) → AreShort entries → length entry ≤ 4096 → AreShort (entries ++ entry ∷ [])
+areshort_append [] entry short le = (le, tt)
+areshort_append (first ∷ entries) entry short le = (short.0, areshort_append entries entry short.1 le)
 
 -- a file with the gate stands for the entries
 pub stands_with : (file : List ℕ) (entries : List (List ℕ)) → StandsWithGate file entries → StandsFor file entries
@@ -58,7 +58,7 @@ staged_stands entries entry c staged = elim (cases_eq staged.gate 1) [
         staged.split
         ∙ ap (λ (g : ℕ). body entries ++ (g ∷ (payload entry ++ (0 ∷ staged.rest)))) is_open
         ∙ sym (append_assoc (body entries) (1 ∷ payload entry) (0 ∷ staged.rest))
-        ∙ ap (λ (l : List ℕ). l ++ (0 ∷ staged.rest)) (sym (body-append entries entry));
+        ∙ ap (λ (l : List ℕ). l ++ (0 ∷ staged.rest)) (sym (body_append entries entry));
     closed = omega arith;
   })
   | inr shut ↦ inl (record { gate = staged.gate; rest = payload entry ++ (0 ∷ staged.rest); split = staged.split; closed = shut })
@@ -66,7 +66,7 @@ staged_stands entries entry c staged = elim (cases_eq staged.gate 1) [
 
 module _ (entries : List (List ℕ)) (entry : List ℕ) (at : ℕ) (place : at ≡ gate_after entries) where
   size : length (body entries) ≡ at
-  size = length-body entries ∙ sym place
+  size = length_body entries ∙ sym place
 
   -- the closed gate stands in each torn image of the first write
   pub torn_behind : (n : ℕ) (file c : List ℕ) → StandsWithGate file entries → Torn (at + 1) n file c → StandsWithGate c entries
@@ -166,7 +166,7 @@ module _ (entries : List (List ℕ)) (entry : List ℕ) (at : ℕ) (place : at �
             ∙ ap (λ (l : List ℕ). body entries ++ (1 ∷ []) ++ l) ends
             ∙ append_assoc (body entries) (1 ∷ []) tail
             ∙ sym (append_assoc (body entries) (1 ∷ payload entry) (0 ∷ after.rest))
-            ∙ ap (λ (l : List ℕ). l ++ (0 ∷ after.rest)) (sym (body-append entries entry));
+            ∙ ap (λ (l : List ℕ). l ++ (0 ∷ after.rest)) (sym (body_append entries entry));
       }
 
 -- the head and a closed gate over whatever stood there

@@ -3,7 +3,7 @@ use Rattle.std.proofs.Common.{◌≡◌, inl, inr, sym, ap, ◌∙◌, subst, �
 use Rattle.std.proofs.lemmas.List.{drop-drop, length-take}
 use Rattle.gate_vault.specs.File.{payload, IsClosed}
 use Rattle.gate_vault.specs.inside.Frames.{IsBadFrame, HasLength}
-use Rattle.gate_vault.proofs.FrameBytes.{body, body-append}
+use Rattle.gate_vault.proofs.FrameBytes.{body, body_append}
 
 pub closed_at : (bytes start : List ℕ) → start ≡ take 3 bytes → IsClosed start → IsClosed bytes
 closed_at [] start is closed = tt
@@ -63,6 +63,6 @@ pub next_read : (entries : List (List ℕ)) (entry file : List ℕ) (gate next :
 next_read entries entry file gate next read frame is all grown =
     read ∙ ap (λ (l : List ℕ). body entries ++ l) frame
     ∙ sym (append_assoc (body entries) (1 ∷ payload entry) (drop (gate + 3 + length entry) file))
-    ∙ ap (λ (l : List ℕ). l ++ drop (gate + 3 + length entry) file) (sym (body-append entries entry))
+    ∙ ap (λ (l : List ℕ). l ++ drop (gate + 3 + length entry) file) (sym (body_append entries entry))
     ∙ ap (λ (es : List (List ℕ)). body es ++ drop (gate + 3 + length entry) file) (sym grown)
     ∙ ap (λ (n : ℕ). body all ++ drop n file) (sym is)

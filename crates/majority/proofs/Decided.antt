@@ -12,10 +12,10 @@ use Rattle.majority.specs.declared.answers.AcceptAnswer.TheVariants as accept
 use Rattle.majority.specs.declared.answers.PromiseAnswer.{PromiseAnswer}
 use Rattle.majority.specs.declared.answers.PromiseAnswer.TheVariants as promise
 use Rattle.majority.specs.Slot.{Message, Prepare, Promise, Accept, Accepted, SlotEvent, Start, Comes, Restart, SlotState, slot_started, start_happens, message_comes, promise_answered, promise_comes, accepted_comes, votes_for_accept, votes_for_promise, slot_after, slot_run}
-use Rattle.majority.proofs.Lists.{Contains-later}
+use Rattle.majority.proofs.Lists.{Contains_later}
 use Rattle.majority.specs.Agreement.{AttemptStands, AttemptsAreVoted, IsAttemptIfAny, IsAttempt, IsSound, bars_of}
 use Rattle.majority.proofs.Chosen.{OneValuePerBallot}
-use Rattle.majority.proofs.Members.{IsDistinct-with_replica, All-with_replica}
+use Rattle.majority.proofs.Members.{IsDistinct_with_replica, All_with_replica}
 use Rattle.majority.proofs.Majorities.{most_from_test}
 
 -- the answer that a value is chosen comes where the test holds
@@ -31,13 +31,13 @@ module _ {V : Type 0} where
 
   kept_by_accept : (answer : AcceptAnswer) (i b : ℕ) (v : V) (votes : List (Vote V)) → KeepsVotes votes (votes_for_accept answer i b v votes)
   kept_by_accept (accept.Lower promised) i b v votes vote member = member
-  kept_by_accept accept.Taken i b v votes vote member = Contains-later _ vote votes member
+  kept_by_accept accept.Taken i b v votes vote member = Contains_later _ vote votes member
 
   kept_by_promise : (answer : PromiseAnswer V) (i b : ℕ) (votes : List (Vote V)) → KeepsVotes votes (votes_for_promise answer i b votes)
   kept_by_promise promise.Late i b votes vote member = member
   kept_by_promise (promise.Lower promised) i b votes vote member = member
   kept_by_promise (promise.Waiting have) i b votes vote member = member
-  kept_by_promise (promise.Send value) i b votes vote member = Contains-later _ vote votes member
+  kept_by_promise (promise.Send value) i b votes vote member = Contains_later _ vote votes member
 
   -- what holds of both cases of a test
   both : (P : SlotState V → Type 0) (test : Bool) (x y : SlotState V) → P x → P y → P (if test then x else y)
@@ -63,7 +63,7 @@ module _ {V : Type 0} where
 
   kept_by_start : (i n b : ℕ) (wish : V) (slot : SlotState V) (test : Bool)
       → KeepsVotes slot.votes (if test then record { replica = i; ballot = b; value = wish } ∷ slot.votes else slot.votes)
-  kept_by_start i n b wish slot true vote member = Contains-later _ vote slot.votes member
+  kept_by_start i n b wish slot true vote member = Contains_later _ vote slot.votes member
   kept_by_start i n b wish slot false vote member = member
 
   kept_by_event : (n : ℕ) (event : SlotEvent V) (slot : SlotState V) → KeepsVotes slot.votes (slot_after n event slot).votes
@@ -81,13 +81,13 @@ module _ {V : Type 0} where
   kept_by_run n (event ∷ events) slot vote member = kept_by_run n events (slot_after n event slot) vote (kept_by_event n event slot vote member)
 
   -- votes are kept as a schedule goes on
-  pub KeepsVotes-run : (n : ℕ) (early late : List (SlotEvent V)) (slot : SlotState V)
+  pub KeepsVotes_run : (n : ℕ) (early late : List (SlotEvent V)) (slot : SlotState V)
       → KeepsVotes (slot_run n early slot).votes (slot_run n (early ++ late) slot).votes
-  KeepsVotes-run n [] late slot = kept_by_run n late slot
-  KeepsVotes-run n (event ∷ early) late slot = KeepsVotes-run n early late (slot_after n event slot)
+  KeepsVotes_run n [] late slot = kept_by_run n late slot
+  KeepsVotes_run n (event ∷ early) late slot = KeepsVotes_run n early late (slot_after n event slot)
 
-  pub IsChosenAt-kept : (n : ℕ) (votes votes' : List (Vote V)) (b : ℕ) (v : V) → KeepsVotes votes votes' → IsChosenAt n votes b v → IsChosenAt n votes' b v
-  IsChosenAt-kept n votes votes' b v kept chosen =
+  pub IsChosenAt_kept : (n : ℕ) (votes votes' : List (Vote V)) (b : ℕ) (v : V) → KeepsVotes votes votes' → IsChosenAt n votes b v → IsChosenAt n votes' b v
+  IsChosenAt_kept n votes votes' b v kept chosen =
       (chosen.0, chosen.1, All-weaker (λ j. HasVote votes j b v) (λ j. HasVote votes' j b v) (λ j vote. kept _ vote) chosen.0 chosen.2)
 
   -- an attempt that counts a majority of acceptances has had its value chosen
@@ -119,9 +119,9 @@ module _ {V : Type 0} where
       let most = most_from_test n a.n (with_replica from a.acceptances) attempt.count (majority_from_answer a.sending v a.n from a.acceptances sending answer) in (
         with_replica from a.acceptances,
         record {
-          within = All-with_replica (λ k. k < n) from a.acceptances before.within ((sound.agreed.acceptors from).within a.ballot v vote);
-          distinct = IsDistinct-with_replica from a.acceptances before.distinct;
+          within = All_with_replica (λ k. k < n) from a.acceptances before.within ((sound.agreed.acceptors from).within a.ballot v vote);
+          distinct = IsDistinct_with_replica from a.acceptances before.distinct;
           most = most;
         },
-        All-with_replica (λ k. HasVote slot.votes k a.ballot v) from a.acceptances (All-weaker (Contains a.acceptances) (λ j. HasVote slot.votes j a.ballot v) (λ j member. before.voted j member) a.acceptances (All-contains_itself a.acceptances)) vote,
+        All_with_replica (λ k. HasVote slot.votes k a.ballot v) from a.acceptances (All-weaker (Contains a.acceptances) (λ j. HasVote slot.votes j a.ballot v) (λ j member. before.voted j member) a.acceptances (All-contains_itself a.acceptances)) vote,
       )

@@ -33,8 +33,8 @@ no_less_above q p n i floor other within start same above =
       | inr no_more ↦ let gap : p * n ≤ q * n = mul-le-mul_right n no_more in absurd (omega arith)
     ]
 
-pub IsNextBallot-next : (replica n floor : ℕ) → replica < n → IsNextBallot replica n floor (next_ballot replica n floor)
-IsNextBallot-next replica n floor within =
+pub IsNextBallot_next : (replica n floor : ℕ) → replica < n → IsNextBallot replica n floor (next_ballot replica n floor)
+IsNextBallot_next replica n floor within =
     let split : floor / n * n + floor % n ≡ floor = div-add-mod' floor n in
     let rest : floor % n < n = mod-lt floor (omega arith) in
     elim (leb_tells (suc floor) (floor / n * n + replica)) [

@@ -9,8 +9,8 @@ use Rattle.majority.specs.Slot.{Promise, SlotState}
 use Rattle.majority.specs.Votes.{Vote, HasVote}
 use Rattle.majority.specs.Agreement.{Reaches, HasNoVote, OneVotePerBallot, VotesHaveOwners, SafeAtBallot, IsSafeAt, Tells, PromisesTell, IsOfVote, Covers, AttemptsHavePromises, IsAttempt, IsSound, bars_of}
 use Rattle.majority.proofs.Chosen.{OneValuePerBallot}
-use Rattle.majority.proofs.Growth.{Reaches-lower}
-use Rattle.majority.proofs.Heard.{Covers-first, Covers-second, Covers_refl, IsOfVote-greater, IsOfVote-own, IsOfVote-reported, Tells-own}
+use Rattle.majority.proofs.Growth.{Reaches_lower}
+use Rattle.majority.proofs.Heard.{Covers_first, Covers_second, Covers_refl, IsOfVote_greater, IsOfVote_own, IsOfVote_reported, Tells_own}
 use Rattle.majority.proofs.Majorities.{most_from_test}
 
 module _ {V : Type 0} where
@@ -47,18 +47,18 @@ module _ {V : Type 0} where
               inr (tells.2 lower (omega arith) below)
         ]
 
-    pub IsSafeAt-from_reports : SafeAtBallot n votes bars → (ballot : ℕ) (quorum : List ℕ) (greatest : Option (ℕ × V)) (wish : V) →
+    pub IsSafeAt_from_reports : SafeAtBallot n votes bars → (ballot : ℕ) (quorum : List ℕ) (greatest : Option (ℕ × V)) (wish : V) →
         IsMajority n quorum → IsOfVote votes greatest → ((replica : ℕ) → Contains quorum replica → HasTold votes bars ballot greatest replica) →
         IsSafeAt n votes bars ballot (value_of_report greatest wish)
-    IsSafeAt-from_reports safe ballot quorum None wish majority vote told =
+    IsSafeAt_from_reports safe ballot quorum None wish majority vote told =
         λ lower below. (
           quorum,
           majority,
           λ replica member.
               let tale = told replica member in
-              inr (nothing_told votes replica ballot lower tale.report tale.tells tale.covered below, Reaches-lower (bars replica) ballot (suc lower) tale.barred (omega arith)),
+              inr (nothing_told votes replica ballot lower tale.report tale.tells tale.covered below, Reaches_lower (bars replica) ballot (suc lower) tale.barred (omega arith)),
         )
-    IsSafeAt-from_reports safe ballot quorum (Some greatest) wish majority vote told =
+    IsSafeAt_from_reports safe ballot quorum (Some greatest) wish majority vote told =
         λ lower below. elim (cases_lt lower greatest.0) [
           | inl earlier ↦ safe vote.0 greatest.0 greatest.1 vote.1 lower earlier
           | inr above ↦ (
@@ -68,7 +68,7 @@ module _ {V : Type 0} where
                 let tale = told replica member in
                 elim (told_above ballot lower replica vote.0 greatest tale.report vote.1 tale.tells tale.covered above below) [
                   | inl voted ↦ inl voted
-                  | inr none ↦ inr (none, Reaches-lower (bars replica) ballot (suc lower) tale.barred (omega arith))
+                  | inr none ↦ inr (none, Reaches_lower (bars replica) ballot (suc lower) tale.barred (omega arith))
                 ],
           )
         ]
@@ -87,9 +87,9 @@ module _ {V : Type 0} where
         elim (have.heard j among) [
           | inl own ↦ subst (λ k. HasTold slot.votes (bars_of slot.acceptors) a.ballot greatest k) (sym (own ∙ attempt.here)) (record {
             report = (slot.acceptors i).accepted;
-            tells = Tells-own n slot.votes i a.ballot (slot.acceptors i) (sound.agreed.acceptors i) unpassed;
+            tells = Tells_own n slot.votes i a.ballot (slot.acceptors i) (sound.agreed.acceptors i) unpassed;
             barred = attempt.barred;
-            covered = Covers-first (slot.acceptors i).accepted a.reported (slot.acceptors i).accepted (Covers_refl (slot.acceptors i).accepted);
+            covered = Covers_first (slot.acceptors i).accepted a.reported (slot.acceptors i).accepted (Covers_refl (slot.acceptors i).accepted);
           })
           | inr other ↦
               let tale : PromisesTell n slot.votes (bars_of slot.acceptors) j a.ballot other.0 = sound.agreed.messages (Promise j a.ballot other.0) other.1 in
@@ -97,20 +97,20 @@ module _ {V : Type 0} where
                 report = other.0;
                 tells = tale.tells;
                 barred = tale.barred;
-                covered = Covers-second (slot.acceptors i).accepted a.reported other.0 other.2;
+                covered = Covers_second (slot.acceptors i).accepted a.reported other.0 other.2;
               }
         ]
 
     -- the greatest report is a vote that was cast
     is_of_vote : IsOfVote slot.votes greatest
     is_of_vote =
-        IsOfVote-greater slot.votes (slot.acceptors i).accepted a.reported (IsOfVote-own n slot.votes i (slot.acceptors i) (sound.agreed.acceptors i))
-        (IsOfVote-reported n slot.votes (bars_of slot.acceptors) slot.sent a.ballot a.promises a.reported
+        IsOfVote_greater slot.votes (slot.acceptors i).accepted a.reported (IsOfVote_own n slot.votes i (slot.acceptors i) (sound.agreed.acceptors i))
+        (IsOfVote_reported n slot.votes (bars_of slot.acceptors) slot.sent a.ballot a.promises a.reported
         (λ k told there. sound.agreed.messages (Promise k a.ballot told) there) have.reported)
 
     -- so the value to send is safe
     pub sent_is_safe : is_majority a.n a.promises ≡ true → IsSafeAt n slot.votes (bars_of slot.acceptors) a.ballot (value_to_send (slot.acceptors i) a)
     sent_is_safe majority =
         let most = most_from_test n a.n a.promises attempt.count majority in
-        IsSafeAt-from_reports n slot.votes (bars_of slot.acceptors) sound.agreed.one_vote sound.agreed.owners sound.agreed.safe a.ballot a.promises greatest
+        IsSafeAt_from_reports n slot.votes (bars_of slot.acceptors) sound.agreed.one_vote sound.agreed.owners sound.agreed.safe a.ballot a.promises greatest
         a.wish (record { within = attempt.within; distinct = attempt.distinct; most = most }) is_of_vote has_told

@@ -7,12 +7,12 @@ use Rattle.majority.specs.Acceptors.{AcceptorState, with_promise, with_vote, pre
 use Rattle.majority.specs.Proposers.{Attempt}
 use Rattle.majority.specs.Votes.{Vote, HasVote}
 use Rattle.majority.specs.Slot.{Message, Promise, Accept, Accepted, SlotState, with_entry, prepare_comes, accept_comes, sent_for_prepare, sent_for_accept, votes_for_accept}
-use Rattle.majority.proofs.Lists.{Contains-here}
-use Rattle.majority.proofs.Entries.{with_entry-cases, HasVote-elim}
+use Rattle.majority.proofs.Lists.{Contains_here}
+use Rattle.majority.proofs.Entries.{with_entry_cases, HasVote_elim}
 use Rattle.majority.specs.Agreement.{Reaches, bars_of, HasNoVote, OwnersVoted, IsSound}
-use Rattle.majority.proofs.Growth.{IsAttemptIfAny-kept}
-use Rattle.majority.proofs.Casts.{Grows-promise, IsAgreed-promise, Grows-vote, IsAgreed-vote}
-use Rattle.majority.proofs.Heard.{Tells-own}
+use Rattle.majority.proofs.Growth.{IsAttemptIfAny_kept}
+use Rattle.majority.proofs.Casts.{Grows_promise, IsAgreed_promise, Grows_vote, IsAgreed_vote}
+use Rattle.majority.proofs.Heard.{Tells_own}
 
 -- a promise that is not above the ballot does not pass it
 pub not_passed : (promise : Option ℕ) (b : ℕ) → greater_promise promise b ≡ None → Reaches promise (suc b) → ⊥
@@ -24,39 +24,39 @@ not_passed (Some promise) b e h =
     ]
 
 module _ {X : Type 0} where
-  pub with_entry-here : (i : ℕ) (x : X) (entries : ℕ → X) → with_entry i x entries i ≡ x
-  with_entry-here i x entries =
+  pub with_entry_here : (i : ℕ) (x : X) (entries : ℕ → X) → with_entry i x entries i ≡ x
+  with_entry_here i x entries =
       elim (eqb_tells i i) [
         | inl same ↦ rw same.0
         | inr other ↦ absurd (other.1 refl)
       ]
 
   -- an entry that is set to what it was
-  pub with_entry-kept : (i : ℕ) (x : X) (entries : ℕ → X) → entries i ≡ x → with_entry i x entries ≡ entries
-  with_entry-kept i x entries e =
-      fun_ext (with_entry-cases (λ (j : ℕ) (y : X). y ≡ entries j) i x entries (sym e) (λ j other. refl))
+  pub with_entry_kept : (i : ℕ) (x : X) (entries : ℕ → X) → entries i ≡ x → with_entry i x entries ≡ entries
+  with_entry_kept i x entries e =
+      fun_ext (with_entry_cases (λ (j : ℕ) (y : X). y ≡ entries j) i x entries (sym e) (λ j other. refl))
 
 module _ {V : Type 0} where
   -- what the changed acceptor has promised
-  pub Reaches-here : (i b : ℕ) (own : AcceptorState V) (held : ℕ → AcceptorState V) → Reaches own.promised b → Reaches (bars_of (with_entry i own held) i) b
-  Reaches-here i b own held reached = subst (λ (a : AcceptorState V). Reaches a.promised b) (sym (with_entry-here i own held)) reached
+  pub Reaches_here : (i b : ℕ) (own : AcceptorState V) (held : ℕ → AcceptorState V) → Reaches own.promised b → Reaches (bars_of (with_entry i own held) i) b
+  Reaches_here i b own held reached = subst (λ (a : AcceptorState V). Reaches a.promised b) (sym (with_entry_here i own held)) reached
 
   -- the same slot, with an acceptor and an attempt set to what they were
-  pub IsSound-same : (n : ℕ) (slot : SlotState V) (held : ℕ → AcceptorState V) (attempts : ℕ → Option (Attempt V)) → held ≡ slot.acceptors
+  pub IsSound_same : (n : ℕ) (slot : SlotState V) (held : ℕ → AcceptorState V) (attempts : ℕ → Option (Attempt V)) → held ≡ slot.acceptors
       → attempts ≡ slot.attempts → IsSound n slot →
       IsSound n (record { acceptors = held; attempts = attempts; votes = slot.votes; sent = slot.sent })
-  IsSound-same n slot held attempts e f sound =
+  IsSound_same n slot held attempts e f sound =
       subst (λ h. IsSound n (record { acceptors = h; attempts = attempts; votes = slot.votes; sent = slot.sent })) (sym e)
       (subst (λ t. IsSound n (record { acceptors = slot.acceptors; attempts = t; votes = slot.votes; sent = slot.sent })) (sym f) sound)
 
   -- a vote leaves a ballot unvoted that is another one
-  pub HasNoVote-other : (votes : List (Vote V)) (i b : ℕ) (v : V) (ballot : ℕ) → (b ≡ ballot → ⊥) → ((j : ℕ) → HasNoVote votes j ballot) → (j : ℕ)
+  pub HasNoVote_other : (votes : List (Vote V)) (i b : ℕ) (v : V) (ballot : ℕ) → (b ≡ ballot → ⊥) → ((j : ℕ) → HasNoVote votes j ballot) → (j : ℕ)
       → HasNoVote (record { replica = i; ballot = b; value = v } ∷ votes) j ballot
-  HasNoVote-other votes i b v ballot other none j w vote =
-      HasVote-elim (λ j c w. c ≡ ballot → ⊥) i b v votes other (λ j c w old same. none j w (subst (λ d. HasVote votes j d w) same old)) j ballot w vote refl
+  HasNoVote_other votes i b v ballot other none j w vote =
+      HasVote_elim (λ j c w. c ≡ ballot → ⊥) i b v votes other (λ j c w old same. none j w (subst (λ d. HasVote votes j d w) same old)) j ballot w vote refl
 
-  pub IsSound-prepare : (n i b : ℕ) (slot : SlotState V) → i < n → IsSound n slot → IsSound n (prepare_comes i b slot)
-  IsSound-prepare n i b slot within sound = answered (greater_promise (slot.acceptors i).promised b) refl
+  pub IsSound_prepare : (n i b : ℕ) (slot : SlotState V) → i < n → IsSound n slot → IsSound n (prepare_comes i b slot)
+  IsSound_prepare n i b slot within sound = answered (greater_promise (slot.acceptors i).promised b) refl
     where
       answered : (o : Option ℕ) → greater_promise (slot.acceptors i).promised b ≡ o →
           IsSound n (record {
@@ -66,23 +66,23 @@ module _ {V : Type 0} where
             sent = sent_for_prepare (prepare_answer_unless o (slot.acceptors i)) i b slot.sent;
           })
       answered (Some promise) e =
-          IsSound-same n slot (with_entry i (slot.acceptors i) slot.acceptors) slot.attempts (with_entry-kept i (slot.acceptors i) slot.acceptors refl) refl sound
+          IsSound_same n slot (with_entry i (slot.acceptors i) slot.acceptors) slot.attempts (with_entry_kept i (slot.acceptors i) slot.acceptors refl) refl sound
       answered None e =
           let free = not_passed (slot.acceptors i).promised b e in
           let message = Promise i b (slot.acceptors i).accepted in
           let held' = with_entry i (with_promise b (slot.acceptors i)) slot.acceptors in
           record {
-            agreed = IsAgreed-promise n slot.acceptors slot.votes slot.sent i b message free sound.agreed (record {
+            agreed = IsAgreed_promise n slot.acceptors slot.votes slot.sent i b message free sound.agreed (record {
               within = within;
-              barred = Reaches-here i b (with_promise b (slot.acceptors i)) slot.acceptors (omega arith);
-              tells = Tells-own n slot.votes i b (slot.acceptors i) (sound.agreed.acceptors i) free;
+              barred = Reaches_here i b (with_promise b (slot.acceptors i)) slot.acceptors (omega arith);
+              tells = Tells_own n slot.votes i b (slot.acceptors i) (sound.agreed.acceptors i) free;
             });
-            attempts = λ j. IsAttemptIfAny-kept slot.votes slot.votes (bars_of slot.acceptors) (bars_of held') slot.sent (message ∷ slot.sent)
-                (Grows-promise n slot.acceptors slot.votes slot.sent i b message free) n j (slot.attempts j) (λ ballot above owned none. none) (sound.attempts j);
+            attempts = λ j. IsAttemptIfAny_kept slot.votes slot.votes (bars_of slot.acceptors) (bars_of held') slot.sent (message ∷ slot.sent)
+                (Grows_promise n slot.acceptors slot.votes slot.sent i b message free) n j (slot.attempts j) (λ ballot above owned none. none) (sound.attempts j);
           }
 
-  pub IsSound-accept : (n i b : ℕ) (v : V) (slot : SlotState V) → i < n → Contains slot.sent (Accept b v) → IsSound n slot → IsSound n (accept_comes i b v slot)
-  IsSound-accept n i b v slot within member sound = answered (greater_promise (slot.acceptors i).promised b) refl
+  pub IsSound_accept : (n i b : ℕ) (v : V) (slot : SlotState V) → i < n → Contains slot.sent (Accept b v) → IsSound n slot → IsSound n (accept_comes i b v slot)
+  IsSound_accept n i b v slot within member sound = answered (greater_promise (slot.acceptors i).promised b) refl
     where
       answered : (o : Option ℕ) → greater_promise (slot.acceptors i).promised b ≡ o →
           IsSound n (record {
@@ -92,7 +92,7 @@ module _ {V : Type 0} where
             sent = sent_for_accept (accept_answer_unless o) i b slot.sent;
           })
       answered (Some promise) e =
-          IsSound-same n slot (with_entry i (slot.acceptors i) slot.acceptors) slot.attempts (with_entry-kept i (slot.acceptors i) slot.acceptors refl) refl sound
+          IsSound_same n slot (with_entry i (slot.acceptors i) slot.acceptors) slot.attempts (with_entry_kept i (slot.acceptors i) slot.acceptors refl) refl sound
       answered None e =
           let free = not_passed (slot.acceptors i).promised b e in
           let message : Message V = Accepted i b in
@@ -100,11 +100,11 @@ module _ {V : Type 0} where
           let votes' : List (Vote V) = record { replica = i; ballot = b; value = v } ∷ slot.votes in
           let owner : OwnersVoted n slot.votes b v = sound.agreed.messages (Accept b v) member in
           record {
-            agreed = IsAgreed-vote n slot.acceptors slot.votes slot.sent i b v message free within sound.agreed (inl owner)
+            agreed = IsAgreed_vote n slot.acceptors slot.votes slot.sent i b v message free within sound.agreed (inl owner)
                 (sound.agreed.safe (b % n) b v owner)
-                (v, Contains-here (record { replica = i; ballot = b; value = v }) slot.votes);
-            attempts = λ j. IsAttemptIfAny-kept slot.votes votes' (bars_of slot.acceptors) (bars_of held') slot.sent (message ∷ slot.sent)
-                (Grows-vote n slot.acceptors slot.votes slot.sent i b v message free) n j (slot.attempts j)
-                (λ ballot above owned none. HasNoVote-other slot.votes i b v ballot (λ same. none (b % n) v (subst (λ d. HasVote slot.votes (b % n) d v) same owner)) none)
+                (v, Contains_here (record { replica = i; ballot = b; value = v }) slot.votes);
+            attempts = λ j. IsAttemptIfAny_kept slot.votes votes' (bars_of slot.acceptors) (bars_of held') slot.sent (message ∷ slot.sent)
+                (Grows_vote n slot.acceptors slot.votes slot.sent i b v message free) n j (slot.attempts j)
+                (λ ballot above owned none. HasNoVote_other slot.votes i b v ballot (λ same. none (b % n) v (subst (λ d. HasVote slot.votes (b % n) d v) same owner)) none)
                 (sound.attempts j);
           }

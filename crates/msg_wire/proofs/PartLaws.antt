@@ -10,7 +10,7 @@ use Rattle.record_codec.specs.Records.{IsValidRecord, record_spelling}
 use Rattle.record_codec.specs.Entries.{rows_spelling, entry_spelling}
 use Rattle.quota_table.specs.Entries.{IsWindowNumber, AreRounds, IsValidEntry}
 use Rattle.record_codec.specs.Reading.{Reader, ◌>>=◌, byte_at, two_at, four_at, eight_at, two_of, three_of}
-use Rattle.record_codec.proofs.Reading.{IsBytes, bind_ok, guard_ok, chosen, ok_is, Took, Took-then, Takes, Reads, single, twos, fours, eights, bytes_are_numbers, field_takes, field_reads, then_reads, give_reads, announced_takes, announced_reads, two_takes, two_reads, three_takes, three_reads}
+use Rattle.record_codec.proofs.Reading.{IsBytes, bind_ok, guard_ok, chosen, ok_is, Took, Took_then, Takes, Reads, single, twos, fours, eights, bytes_are_numbers, field_takes, field_reads, then_reads, give_reads, announced_takes, announced_reads, two_takes, two_reads, three_takes, three_reads}
 use Rattle.msg_wire.specs.declared.errors.WireError.{WireError}
 use Rattle.msg_wire.specs.declared.errors.WireError.TheVariants.{Short, BadKind, BadField, Trailing, OutOfMemory}
 use Rattle.msg_wire.specs.Names.{Row, Entry, Record}
@@ -99,7 +99,7 @@ tagged_takes {A} {E} tag_of spell fields Valid In t k spelled p q = record {
       let first = p.took bytes at tag.0 fits tag.1 in
       let rest = (q tag.0.0 first.1).took bytes tag.0.1 x fits tag.2 in
       let front : Took bytes at (single (tag_of x.0)) tag.0.1 = subst (λ (n : ℕ). Took bytes at (single n) tag.0.1) (sym rest.1.1) first.0 in
-      (rw (spelled x.0) (Took-then bytes at tag.0.1 x.1 (single (tag_of x.0)) (fields x.0) front rest.0), rest.1.0);
+      (rw (spelled x.0) (Took_then bytes at tag.0.1 x.1 (single (tag_of x.0)) (fields x.0) front rest.0), rest.1.0);
 }
 
 -- ---- records

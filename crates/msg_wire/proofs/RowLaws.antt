@@ -6,7 +6,7 @@ use Rattle.std.proofs.lemmas.List.{append-nil}
 use Rattle.quota_table.specs.Rows.{has_shard, is_row, is_distinct, IsTable}
 use Rattle.record_codec.specs.Entries.{rows_spelling}
 use Rattle.record_codec.specs.Reading.{Reader, ◌>>=◌}
-use Rattle.record_codec.proofs.Reading.{IsBytes, bind_ok, guard_ok, ok_is, Took, Took-then, Takes, Reads, single, then_reads, give_reads, two_takes, two_reads}
+use Rattle.record_codec.proofs.Reading.{IsBytes, bind_ok, guard_ok, ok_is, Took, Took_then, Takes, Reads, single, then_reads, give_reads, two_takes, two_reads}
 use Rattle.msg_wire.specs.declared.errors.WireError.{WireError}
 use Rattle.msg_wire.specs.declared.errors.WireError.TheVariants.{Short, BadKind, BadField, Trailing, OutOfMemory}
 use Rattle.msg_wire.specs.Names.{Row}
@@ -138,7 +138,7 @@ rows_took (suc count) earlier bytes at x fits d e =
     let o = rows_took count (earlier ++ r.0.0 ∷ []) bytes r.0.1 x fits (distinct_pushed earlier r.0.0 d t.1.1) r.2 in
     record {
       more = r.0.0 ∷ o.more;
-      text = Took-then bytes at r.0.1 x.1 (row_spelling r.0.0) (rows_spelling o.more) t.0 o.text;
+      text = Took_then bytes at r.0.1 x.1 (row_spelling r.0.0) (rows_spelling o.more) t.0 o.text;
       all = o.all ∙ append_assoc earlier (r.0.0 ∷ []) o.more;
       size = ap suc o.size;
       rows = rw t.1.0 o.rows;
@@ -166,7 +166,7 @@ table_takes = record {
       let n = bind_ok (byte_in 1 6 bytes at) (λ count. rows_at count.0 [] bytes count.1) x e in
       let t = (byte_takes 1 6).took bytes at n.0 fits n.1 in
       let r = rows_took n.0.0 [] bytes n.0.1 x fits refl n.2 in
-      let both = Took-then bytes at n.0.1 x.1 (single n.0.0) (rows_spelling r.more) t.0 r.text in
+      let both = Took_then bytes at n.0.1 x.1 (single n.0.0) (rows_spelling r.more) t.0 r.text in
       let counted : Took bytes at (counted_rows r.more) x.1 = subst (λ (k : ℕ). Took bytes at (k ∷ rows_spelling r.more) x.1) (sym r.size) both in
       (subst (λ (rows : List Row). Took bytes at (counted_rows rows) x.1) (sym r.all) counted, rows_make_a_table n.0.0 bytes n.0.1 x fits t.1.0 t.1.1 n.2);
 }

@@ -17,31 +17,31 @@ use Rattle.net_model.specs.inside.Kept.{event_in, entry_in, entries_in, entries_
 
 -- ---- lists
 
-slice_get-before : {X : Type 0} (xs ys : List X) (i : ℕ) → i < length xs → slice_get (xs ++ ys) i ≡ slice_get xs i
-slice_get-before [] ys i h = absurd (omega arith)
-slice_get-before (x ∷ xs) ys zero h = refl
-slice_get-before (x ∷ xs) ys (suc i) h = slice_get-before xs ys i (omega arith)
+slice_get_before : {X : Type 0} (xs ys : List X) (i : ℕ) → i < length xs → slice_get (xs ++ ys) i ≡ slice_get xs i
+slice_get_before [] ys i h = absurd (omega arith)
+slice_get_before (x ∷ xs) ys zero h = refl
+slice_get_before (x ∷ xs) ys (suc i) h = slice_get_before xs ys i (omega arith)
 
-slice_get-last : {X : Type 0} (xs : List X) (x : X) → slice_get (xs ++ x ∷ []) (length xs) ≡ Some x
-slice_get-last [] x = refl
-slice_get-last (y ∷ xs) x = slice_get-last xs x
+slice_get_last : {X : Type 0} (xs : List X) (x : X) → slice_get (xs ++ x ∷ []) (length xs) ≡ Some x
+slice_get_last [] x = refl
+slice_get_last (y ∷ xs) x = slice_get_last xs x
 
-range-before : {X : Type 0} (xs ys : List X) (from end : ℕ) → from ≤ end → end ≤ length xs → slice_range (xs ++ ys) from end ≡ slice_range xs from end
-range-before xs ys from end rise within =
+range_before : {X : Type 0} (xs ys : List X) (from end : ℕ) → from ≤ end → end ≤ length xs → slice_range (xs ++ ys) from end ≡ slice_range xs from end
+range_before xs ys from end rise within =
     let below : from ≤ length xs = omega arith in
     let fits : end - from ≤ length (drop from xs) = omega (arith, length-drop from xs) in
     ap (take (end - from)) (drop-append-le from xs ys below) ∙ take-append-le (end - from) (drop from xs) ys fits
 
-take-all : {X : Type 0} (n : ℕ) (xs : List X) → n ≡ length xs → take n xs ≡ xs
-take-all zero [] e = refl
-take-all zero (x ∷ xs) e = absurd (omega arith)
-take-all (suc n) [] e = absurd (omega arith)
-take-all (suc n) (x ∷ xs) e = ap (λ l. x ∷ l) (take-all n xs (omega arith))
+take_all : {X : Type 0} (n : ℕ) (xs : List X) → n ≡ length xs → take n xs ≡ xs
+take_all zero [] e = refl
+take_all zero (x ∷ xs) e = absurd (omega arith)
+take_all (suc n) [] e = absurd (omega arith)
+take_all (suc n) (x ∷ xs) e = ap (λ l. x ∷ l) (take_all n xs (omega arith))
 
-range-last : {X : Type 0} (xs ys : List X) (from : ℕ) → from ≡ length xs → slice_range (xs ++ ys) from (length (xs ++ ys)) ≡ ys
-range-last xs ys from e =
+range_last : {X : Type 0} (xs ys : List X) (from : ℕ) → from ≡ length xs → slice_range (xs ++ ys) from (length (xs ++ ys)) ≡ ys
+range_last xs ys from e =
     let rest : drop from (xs ++ ys) ≡ ys = ap (λ n. drop n (xs ++ ys)) e ∙ drop-append_seam xs ys in
-    ap (take (length (xs ++ ys) - from)) rest ∙ take-all (length (xs ++ ys) - from) ys (omega (arith, length-append xs ys))
+    ap (take (length (xs ++ ys) - from)) rest ∙ take_all (length (xs ++ ys) - from) ys (omega (arith, length-append xs ys))
 
 -- ---- one step more
 
@@ -54,30 +54,30 @@ record Grew (c d : Columns) : Type 0 where
   marks_are : d.marks ≡ c.marks ++ marks
   events_are : d.events ≡ c.events ++ events
 
-event-kept : (c d : Columns) (t : Taken) → Grew c d → IsTakenIn c t → event_in d t ≡ event_in c t
-event-kept c d (kept.Message number) g h = ap (λ m. option_map_or events.Deliver m events.Tick) (ap (λ l. slice_get l number) g.messages_are ∙ slice_get-before c.messages g.sends number h)
-event-kept c d (kept.Whole place) g h = ap (λ e. unwrap_or e events.Tick) (ap (λ l. slice_get l place) g.events_are ∙ slice_get-before c.events g.events place h)
-event-kept c d kept.Tick g h = refl
-event-kept c d kept.Restart g h = refl
+event_in_kept : (c d : Columns) (t : Taken) → Grew c d → IsTakenIn c t → event_in d t ≡ event_in c t
+event_in_kept c d (kept.Message number) g h = ap (λ m. option_map_or events.Deliver m events.Tick) (ap (λ l. slice_get l number) g.messages_are ∙ slice_get_before c.messages g.sends number h)
+event_in_kept c d (kept.Whole place) g h = ap (λ e. unwrap_or e events.Tick) (ap (λ l. slice_get l place) g.events_are ∙ slice_get_before c.events g.events place h)
+event_in_kept c d kept.Tick g h = refl
+event_in_kept c d kept.Restart g h = refl
 
-taken-kept : (c d : Columns) (t : Taken) → Grew c d → IsTakenIn c t → IsTakenIn d t
-taken-kept c d (kept.Message number) g h = omega (arith, ap length g.messages_are, length-append c.messages g.sends)
-taken-kept c d (kept.Whole place) g h = omega (arith, ap length g.events_are, length-append c.events g.events)
-taken-kept c d kept.Tick g h = tt
-taken-kept c d kept.Restart g h = tt
+taken_kept : (c d : Columns) (t : Taken) → Grew c d → IsTakenIn c t → IsTakenIn d t
+taken_kept c d (kept.Message number) g h = omega (arith, ap length g.messages_are, length-append c.messages g.sends)
+taken_kept c d (kept.Whole place) g h = omega (arith, ap length g.events_are, length-append c.events g.events)
+taken_kept c d kept.Tick g h = tt
+taken_kept c d kept.Restart g h = tt
 
-entry-kept : (c d : Columns) (from at : ℕ) (s : KeptStep) → Grew c d → IsStepIn c from at s → entry_in d from at s ≡ entry_in c from at s
-entry-kept c d from at s g h =
-    let event = event-kept c d s.taken g h.taken in
+entry_kept : (c d : Columns) (from at : ℕ) (s : KeptStep) → Grew c d → IsStepIn c from at s → entry_in d from at s ≡ entry_in c from at s
+entry_kept c d from at s g h =
+    let event = event_in_kept c d s.taken g h.taken in
     let sends : slice_range d.messages from s.sends_end ≡ slice_range c.messages from s.sends_end =
-    ap (λ l. slice_range l from s.sends_end) g.messages_are ∙ range-before c.messages g.sends from s.sends_end h.sends_rise h.sends_within in
+    ap (λ l. slice_range l from s.sends_end) g.messages_are ∙ range_before c.messages g.sends from s.sends_end h.sends_rise h.sends_within in
     let marks : slice_range d.marks at s.marks_end ≡ slice_range c.marks at s.marks_end =
-    ap (λ l. slice_range l at s.marks_end) g.marks_are ∙ range-before c.marks g.marks at s.marks_end h.marks_rise h.marks_within in
+    ap (λ l. slice_range l at s.marks_end) g.marks_are ∙ range_before c.marks g.marks at s.marks_end h.marks_rise h.marks_within in
     cc
 
-step-kept : (c d : Columns) (from at : ℕ) (s : KeptStep) → Grew c d → IsStepIn c from at s → IsStepIn d from at s
-step-kept c d from at s g h = record {
-  taken = taken-kept c d s.taken g h.taken;
+step_kept : (c d : Columns) (from at : ℕ) (s : KeptStep) → Grew c d → IsStepIn c from at s → IsStepIn d from at s
+step_kept c d from at s g h = record {
+  taken = taken_kept c d s.taken g h.taken;
   sends_rise = h.sends_rise;
   sends_within = omega (arith, h.sends_within, ap length g.messages_are, length-append c.messages g.sends);
   marks_rise = h.marks_rise;
@@ -85,11 +85,11 @@ step-kept c d from at s g h = record {
 }
 
 -- events that are kept for later steps change nothing
-entries-kept : (c d : Columns) (from at : ℕ) (ss : List KeptStep) → Grew c d → AreStepsIn c from at ss → entries_in d from at ss ≡ entries_in c from at ss
-entries-kept c d from at [] g h = refl
-entries-kept c d from at (s ∷ ss) g h =
-    let first = entry-kept c d from at s g h.0 in
-    let later = entries-kept c d s.sends_end s.marks_end ss g h.1 in
+entries_kept : (c d : Columns) (from at : ℕ) (ss : List KeptStep) → Grew c d → AreStepsIn c from at ss → entries_in d from at ss ≡ entries_in c from at ss
+entries_kept c d from at [] g h = refl
+entries_kept c d from at (s ∷ ss) g h =
+    let first = entry_kept c d from at s g h.0 in
+    let later = entries_kept c d s.sends_end s.marks_end ss g h.1 in
     cc
 
 -- a step whose sends and marks are all that the columns grew by
@@ -101,26 +101,26 @@ record IsLast (c d : Columns) (g : Grew c d) (s : KeptStep) : Type 0 where
 abbrev entry_of : Columns → KeptStep → List Message → List Mark → HistoryEntry
 entry_of d s sends marks = record { node = s.node; event = event_in d s.taken; sends = sends; marks = marks }
 
-entry-last : (c d : Columns) (from at : ℕ) (s : KeptStep) (g : Grew c d) → IsLast c d g s → from ≡ length c.messages → at ≡ length c.marks
+entry_last : (c d : Columns) (from at : ℕ) (s : KeptStep) (g : Grew c d) → IsLast c d g s → from ≡ length c.messages → at ≡ length c.marks
     → entry_in d from at s ≡ entry_of d s g.sends g.marks
-entry-last c d from at s g l f a =
+entry_last c d from at s g l f a =
     let sends : slice_range d.messages from s.sends_end ≡ g.sends =
-    ap (slice_range d.messages from) l.sends ∙ ap (λ xs. slice_range xs from (length xs)) g.messages_are ∙ range-last c.messages g.sends from f in
+    ap (slice_range d.messages from) l.sends ∙ ap (λ xs. slice_range xs from (length xs)) g.messages_are ∙ range_last c.messages g.sends from f in
     let marks : slice_range d.marks at s.marks_end ≡ g.marks =
-    ap (slice_range d.marks at) l.marks ∙ ap (λ xs. slice_range xs at (length xs)) g.marks_are ∙ range-last c.marks g.marks at a in
+    ap (slice_range d.marks at) l.marks ∙ ap (λ xs. slice_range xs at (length xs)) g.marks_are ∙ range_last c.marks g.marks at a in
     cc
 
-entries-more : (c d : Columns) (from at : ℕ) (ss : List KeptStep) (s : KeptStep) (g : Grew c d) → IsLast c d g s → AreStepsIn c from at ss
+entries_more : (c d : Columns) (from at : ℕ) (ss : List KeptStep) (s : KeptStep) (g : Grew c d) → IsLast c d g s → AreStepsIn c from at ss
     → entries_in d from at (ss ++ s ∷ []) ≡ entries_in c from at ss ++ entry_of d s g.sends g.marks ∷ []
-entries-more c d from at [] s g l h = ap (λ e. e ∷ []) (entry-last c d from at s g l h.0 h.1)
-entries-more c d from at (x ∷ ss) s g l h =
-    let first = entry-kept c d from at x g h.0 in
-    let later = entries-more c d x.sends_end x.marks_end ss s g l h.1 in
+entries_more c d from at [] s g l h = ap (λ e. e ∷ []) (entry_last c d from at s g l h.0 h.1)
+entries_more c d from at (x ∷ ss) s g l h =
+    let first = entry_kept c d from at x g h.0 in
+    let later = entries_more c d x.sends_end x.marks_end ss s g l h.1 in
     cc
 
-steps-more : (c d : Columns) (from at : ℕ) (ss : List KeptStep) (s : KeptStep) (g : Grew c d) → IsLast c d g s → AreStepsIn c from at ss
+steps_more : (c d : Columns) (from at : ℕ) (ss : List KeptStep) (s : KeptStep) (g : Grew c d) → IsLast c d g s → AreStepsIn c from at ss
     → AreStepsIn d from at (ss ++ s ∷ [])
-steps-more c d from at [] s g l h = (
+steps_more c d from at [] s g l h = (
   record {
     taken = l.taken;
     sends_rise = omega (arith, h.0, l.sends, ap length g.messages_are, length-append c.messages g.sends);
@@ -130,7 +130,7 @@ steps-more c d from at [] s g l h = (
   },
   (l.sends, l.marks),
 )
-steps-more c d from at (x ∷ ss) s g l h = (step-kept c d from at x g h.0, steps-more c d x.sends_end x.marks_end ss s g l h.1)
+steps_more c d from at (x ∷ ss) s g l h = (step_kept c d from at x g h.0, steps_more c d x.sends_end x.marks_end ss s g l h.1)
 
 -- ---- a step that is put, and an event that is kept for it
 
@@ -139,30 +139,30 @@ grew c node taken sends marks = record { sends = sends; marks = marks; events = 
 
 last : (c : Columns) (node : NodeId) (taken : Taken) (sends : List Message) (marks : List Mark) → IsTakenIn c taken
     → IsLast c (with_step c node taken sends marks) (grew c node taken sends marks) (record { node = node; taken = taken; sends_end = length (c.messages ++ sends); marks_end = length (c.marks ++ marks) })
-last c node taken sends marks h = record { taken = taken-kept c (with_step c node taken sends marks) taken (grew c node taken sends marks) h; sends = refl; marks = refl }
+last c node taken sends marks h = record { taken = taken_kept c (with_step c node taken sends marks) taken (grew c node taken sends marks) h; sends = refl; marks = refl }
 
 pub whole_put : (c d : Columns) (node : NodeId) (taken : Taken) (sends : List Message) (marks : List Mark) → IsWhole c → IsTakenIn c taken
     → d ≡ with_step c node taken sends marks → IsWhole d
 whole_put c d node taken sends marks w h e =
-    subst IsWhole (sym e) (steps-more c (with_step c node taken sends marks) 0 0 c.steps _ (grew c node taken sends marks) (last c node taken sends marks h) w)
+    subst IsWhole (sym e) (steps_more c (with_step c node taken sends marks) 0 0 c.steps _ (grew c node taken sends marks) (last c node taken sends marks h) w)
 
 pub entries_put : (c d : Columns) (node : NodeId) (taken : Taken) (sends : List Message) (marks : List Mark) → IsWhole c → IsTakenIn c taken
     → d ≡ with_step c node taken sends marks
     → entries_of d ≡ entries_of c ++ record { node = node; event = event_in c taken; sends = sends; marks = marks } ∷ []
 entries_put c d node taken sends marks w h e =
     let g = grew c node taken sends marks in
-    let event : event_in (with_step c node taken sends marks) taken ≡ event_in c taken = event-kept c (with_step c node taken sends marks) taken g h in
+    let event : event_in (with_step c node taken sends marks) taken ≡ event_in c taken = event_in_kept c (with_step c node taken sends marks) taken g h in
     let more : entries_of (with_step c node taken sends marks) ≡ entries_of c ++ record { node = node; event = event_in (with_step c node taken sends marks) taken; sends = sends; marks = marks } ∷ [] =
-    entries-more c (with_step c node taken sends marks) 0 0 c.steps (record { node = node; taken = taken; sends_end = length (c.messages ++ sends); marks_end = length (c.marks ++ marks) }) g (last c node taken sends marks h) w in
+    entries_more c (with_step c node taken sends marks) 0 0 c.steps (record { node = node; taken = taken; sends_end = length (c.messages ++ sends); marks_end = length (c.marks ++ marks) }) g (last c node taken sends marks h) w in
     ap entries_of e ∙ more ∙ ap (λ (x : Event). entries_of c ++ record { node = node; event = x; sends = sends; marks = marks } ∷ []) event
 
 -- an event more at the end of those that are kept whole
-grew-whole : (c : Columns) (event : Event) → Grew c (with_whole c event)
-grew-whole c event = record { sends = []; marks = []; events = event ∷ []; messages_are = sym (append-nil c.messages); marks_are = sym (append-nil c.marks); events_are = refl }
+grew_whole : (c : Columns) (event : Event) → Grew c (with_whole c event)
+grew_whole c event = record { sends = []; marks = []; events = event ∷ []; messages_are = sym (append-nil c.messages); marks_are = sym (append-nil c.marks); events_are = refl }
 
-steps-whole : (c : Columns) (event : Event) (from at : ℕ) (ss : List KeptStep) → AreStepsIn c from at ss → AreStepsIn (with_whole c event) from at ss
-steps-whole c event from at [] h = h
-steps-whole c event from at (s ∷ ss) h = (step-kept c (with_whole c event) from at s (grew-whole c event) h.0, steps-whole c event s.sends_end s.marks_end ss h.1)
+steps_whole : (c : Columns) (event : Event) (from at : ℕ) (ss : List KeptStep) → AreStepsIn c from at ss → AreStepsIn (with_whole c event) from at ss
+steps_whole c event from at [] h = h
+steps_whole c event from at (s ∷ ss) h = (step_kept c (with_whole c event) from at s (grew_whole c event) h.0, steps_whole c event s.sends_end s.marks_end ss h.1)
 
 -- an event, kept for the next step
 pub record KeepsEvent (c d : Columns) (event : Event) (taken : Taken) : Type 0 where
@@ -171,21 +171,21 @@ pub record KeepsEvent (c d : Columns) (event : Event) (taken : Taken) : Type 0 w
   pub taken_in : IsTakenIn d taken
   pub event_is : event_in d taken ≡ event
 
-kept-whole : (c : Columns) (event : Event) → IsWhole c → KeepsEvent c (with_whole c event) event (kept.Whole (length c.events))
-kept-whole c event w = record {
-  whole = steps-whole c event 0 0 c.steps w;
-  entries = entries-kept c (with_whole c event) 0 0 c.steps (grew-whole c event) w;
+kept_whole : (c : Columns) (event : Event) → IsWhole c → KeepsEvent c (with_whole c event) event (kept.Whole (length c.events))
+kept_whole c event w = record {
+  whole = steps_whole c event 0 0 c.steps w;
+  entries = entries_kept c (with_whole c event) 0 0 c.steps (grew_whole c event) w;
   taken_in = omega (arith, length-append c.events (event ∷ []));
-  event_is = ap (λ e. unwrap_or e events.Tick) (slice_get-last c.events event);
+  event_is = ap (λ e. unwrap_or e events.Tick) (slice_get_last c.events event);
 }
 
-kept-event : (c : Columns) (event : Event) → IsWhole c → KeepsEvent c (with_event c event) event (taken_as c event)
-kept-event c events.Tick w = record { whole = w; entries = refl; taken_in = tt; event_is = refl }
-kept-event c events.Restart w = record { whole = w; entries = refl; taken_in = tt; event_is = refl }
-kept-event c (events.Submit by body) w = kept-whole c (events.Submit by body) w
-kept-event c (events.Deliver message) w = kept-whole c (events.Deliver message) w
-kept-event c (events.Command command) w = kept-whole c (events.Command command) w
+kept_event : (c : Columns) (event : Event) → IsWhole c → KeepsEvent c (with_event c event) event (taken_as c event)
+kept_event c events.Tick w = record { whole = w; entries = refl; taken_in = tt; event_is = refl }
+kept_event c events.Restart w = record { whole = w; entries = refl; taken_in = tt; event_is = refl }
+kept_event c (events.Submit by body) w = kept_whole c (events.Submit by body) w
+kept_event c (events.Deliver message) w = kept_whole c (events.Deliver message) w
+kept_event c (events.Command command) w = kept_whole c (events.Command command) w
 
 pub event_kept : (c d : Columns) (event : Event) (taken : Taken) → IsWhole c → d ≡ with_event c event → taken ≡ taken_as c event → KeepsEvent c d event taken
 event_kept c d event taken w e t =
-    subst (λ (k : Taken). KeepsEvent c d event k) (sym t) (subst (λ (x : Columns). KeepsEvent c x event (taken_as c event)) (sym e) (kept-event c event w))
+    subst (λ (k : Taken). KeepsEvent c d event k) (sym t) (subst (λ (x : Columns). KeepsEvent c x event (taken_as c event)) (sym e) (kept_event c event w))

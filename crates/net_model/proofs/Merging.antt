@@ -22,9 +22,9 @@ pub all_append : {X : Type 0} (P : X → Type 0) (xs ys : List X) → AllByRecur
 all_append P [] ys f g = g
 all_append P (x ∷ xs) ys f g = (f.0, all_append P xs ys f.1 g)
 
-steps-append : (front back : List OwnSteps) → all_steps (front ++ back) ≡ all_steps front ++ all_steps back
-steps-append [] back = refl
-steps-append (j ∷ front) back = ap (λ steps. j.steps ++ steps) (steps-append front back) ∙ sym (append_assoc j.steps (all_steps front) (all_steps back))
+steps_append : (front back : List OwnSteps) → all_steps (front ++ back) ≡ all_steps front ++ all_steps back
+steps_append [] back = refl
+steps_append (j ∷ front) back = ap (λ steps. j.steps ++ steps) (steps_append front back) ∙ sym (append_assoc j.steps (all_steps front) (all_steps back))
 
 -- ---- which journals have steps of a node
 
@@ -36,15 +36,15 @@ either : (b : Bool) → (b ≡ true) ⊎ (b ≡ false)
 either true = inl refl
 either false = inr refl
 
-none-behind : (node : NodeId) (front back : List OwnSteps) → has_journal_of node (front ++ back) ≡ false → has_journal_of node back ≡ false
-none-behind node [] back e = e
-none-behind node (j ∷ front) back e = none-behind node front back (or_parts (same_node j.node node) _ e).1
+none_behind : (node : NodeId) (front back : List OwnSteps) → has_journal_of node (front ++ back) ≡ false → has_journal_of node back ≡ false
+none_behind node [] back e = e
+none_behind node (j ∷ front) back e = none_behind node front back (or_parts (same_node j.node node) _ e).1
 
-none-before : (node : NodeId) (front back : List OwnSteps) → has_journal_of node (front ++ back) ≡ false → has_journal_of node front ≡ false
-none-before node [] back e = refl
-none-before node (j ∷ front) back e =
+none_before : (node : NodeId) (front back : List OwnSteps) → has_journal_of node (front ++ back) ≡ false → has_journal_of node front ≡ false
+none_before node [] back e = refl
+none_before node (j ∷ front) back e =
     let parts = or_parts (same_node j.node node) (has_journal_of node (front ++ back)) e in
-    let rest = none-before node front back parts.1 in
+    let rest = none_before node front back parts.1 in
     let here : same_node j.node node ≡ false = parts.0 in
     ap (λ b. b || has_journal_of node front) here ∙ rest
 
@@ -66,29 +66,29 @@ fail_of_none node (j ∷ journals) e are =
 abbrev OneHasNone : NodeId → List OwnSteps → List OwnSteps → Type 0
 OneHasNone node front back = Fail (is_step_of node) (all_steps front) ⊎ Fail (is_step_of node) (all_steps back)
 
-with-first : (node : NodeId) (j : OwnSteps) (front back : List OwnSteps) → has_journal_of j.node (front ++ back) ≡ false → IsJournal j
+with_first : (node : NodeId) (j : OwnSteps) (front back : List OwnSteps) → has_journal_of j.node (front ++ back) ≡ false → IsJournal j
     → AllByRecursion IsJournal back
     → OneHasNone node front back → (same_node j.node node ≡ true) ⊎ (same_node j.node node ≡ false) → OneHasNone node (j ∷ front) back
-with-first node j front back only is b rest (inl same) =
-    inr (fail_of_none node back (none-behind node front back (subst (λ n. has_journal_of n (front ++ back) ≡ false) (same_node_is j.node node same) only)) b)
-with-first node j front back only is b (inl none) (inr other) =
+with_first node j front back only is b rest (inl same) =
+    inr (fail_of_none node back (none_behind node front back (subst (λ n. has_journal_of n (front ++ back) ≡ false) (same_node_is j.node node same) only)) b)
+with_first node j front back only is b (inl none) (inr other) =
     inl (all_append _ j.steps (all_steps front) (fail_of_other node j.node j.steps other is.own) none)
-with-first node j front back only is b (inr none) (inr other) = inr none
+with_first node j front back only is b (inr none) (inr other) = inr none
 
-one-has-none : (node : NodeId) (front back : List OwnSteps) → distinct_nodes (front ++ back) ≡ true → AllByRecursion IsJournal front
+one_has_none : (node : NodeId) (front back : List OwnSteps) → distinct_nodes (front ++ back) ≡ true → AllByRecursion IsJournal front
     → AllByRecursion IsJournal back → OneHasNone node front back
-one-has-none node [] back distinct f b = inl tt
-one-has-none node (j ∷ front) back distinct f b =
+one_has_none node [] back distinct f b = inl tt
+one_has_none node (j ∷ front) back distinct f b =
     let parts = and_parts (not (has_journal_of j.node (front ++ back))) (distinct_nodes (front ++ back)) distinct in
-    with-first node j front back (not_true (has_journal_of j.node (front ++ back)) parts.0) f.0 b (one-has-none node front back parts.1 f.1 b)
+    with_first node j front back (not_true (has_journal_of j.node (front ++ back)) parts.0) f.0 b (one_has_none node front back parts.1 f.1 b)
     (either (same_node j.node node))
 
-distinct-parts : (front back : List OwnSteps) → distinct_nodes (front ++ back) ≡ true → (distinct_nodes front ≡ true) × (distinct_nodes back ≡ true)
-distinct-parts [] back e = (refl, e)
-distinct-parts (j ∷ front) back e =
+distinct_parts : (front back : List OwnSteps) → distinct_nodes (front ++ back) ≡ true → (distinct_nodes front ≡ true) × (distinct_nodes back ≡ true)
+distinct_parts [] back e = (refl, e)
+distinct_parts (j ∷ front) back e =
     let parts = and_parts (not (has_journal_of j.node (front ++ back))) (distinct_nodes (front ++ back)) e in
-    let rest = distinct-parts front back parts.1 in
-    let here = none-before j.node front back (not_true (has_journal_of j.node (front ++ back)) parts.0) in
+    let rest = distinct_parts front back parts.1 in
+    let here = none_before j.node front back (not_true (has_journal_of j.node (front ++ back)) parts.0) in
     (ap (λ b. not b && distinct_nodes front) here ∙ rest.0, rest.1)
 
 -- ---- what fails is left out
@@ -97,62 +97,62 @@ pub none_passes : {X : Type 0} (p : X → Bool) (xs : List X) → Fail p xs → 
 none_passes p [] fail = refl
 none_passes p (x ∷ xs) fail = ap (λ b. kept b x (filter p xs)) fail.0 ∙ none_passes p xs fail.1
 
-all-fail-at : {X : Type 0} (p : X → Bool) (x : X) (xs : List X) (b : Bool) → p x ≡ b → (filter p xs ≡ [] → Fail p xs) → kept b x (filter p xs) ≡ []
+all_fail_at : {X : Type 0} (p : X → Bool) (x : X) (xs : List X) (b : Bool) → p x ≡ b → (filter p xs ≡ [] → Fail p xs) → kept b x (filter p xs) ≡ []
     → Fail p (x ∷ xs)
-all-fail-at p x xs true is rest e = absurd (cc)
-all-fail-at p x xs false is rest e = (is, rest e)
+all_fail_at p x xs true is rest e = absurd (cc)
+all_fail_at p x xs false is rest e = (is, rest e)
 
-all-fail : {X : Type 0} (p : X → Bool) (xs : List X) → filter p xs ≡ [] → Fail p xs
-all-fail p [] e = tt
-all-fail p (x ∷ xs) e = all-fail-at p x xs (p x) refl (all-fail p xs) e
+all_fail : {X : Type 0} (p : X → Bool) (xs : List X) → filter p xs ≡ [] → Fail p xs
+all_fail p [] e = tt
+all_fail p (x ∷ xs) e = all_fail_at p x xs (p x) refl (all_fail p xs) e
 
 -- ---- both parts
 
-own-halves : (node : NodeId) (front back : List OwnSteps) (fs bs : List Stamped)
+own_halves : (node : NodeId) (front back : List OwnSteps) (fs bs : List Stamped)
     → filter (is_step_of node) fs ≡ filter (is_step_of node) (all_steps front) → filter (is_step_of node) bs ≡ filter (is_step_of node) (all_steps back)
     → OneHasNone node front back
     → filter (is_step_of node) (interleaved comes_first fs bs) ≡ filter (is_step_of node) (all_steps front) ++ filter (is_step_of node) (all_steps back)
-own-halves node front back fs bs f b (inl none) =
+own_halves node front back fs bs f b (inl none) =
     let p = is_step_of node in
     let nothing = none_passes p (all_steps front) none in
-    let fail = all-fail p fs (f ∙ nothing) in
+    let fail = all_fail p fs (f ∙ nothing) in
     filter_second p comes_first fs bs fail ∙ b ∙ ap (λ l. l ++ filter p (all_steps back)) (sym nothing)
-own-halves node front back fs bs f b (inr none) =
+own_halves node front back fs bs f b (inr none) =
     let p = is_step_of node in
     let nothing = none_passes p (all_steps back) none in
-    let fail = all-fail p bs (b ∙ nothing) in
+    let fail = all_fail p bs (b ∙ nothing) in
     filter_first p comes_first fs bs fail ∙ f ∙ sym (append-nil (filter p (all_steps front))) ∙ ap (λ l. filter p (all_steps front) ++ l) (sym nothing)
 
 halves : (front back : List OwnSteps) (fs bs : List Stamped) → AreSteps front fs → AreSteps back bs → AreSteps (front ++ back) (interleaved comes_first fs bs)
 halves front back fs bs f b = record {
   journals_are = all_append IsJournal front back f.journals_are b.journals_are;
   each_once =
-      subst (λ l. IsPermutation l (interleaved comes_first fs bs)) (sym (steps-append front back))
+      subst (λ l. IsPermutation l (interleaved comes_first fs bs)) (sym (steps_append front back))
       (IsPermutation-trans _ _ _ (IsPermutation-append (all_steps front) fs (all_steps back) bs f.each_once b.each_once) (permutes comes_first fs bs));
   in_order = ordered fs bs f.in_order b.in_order;
   own_order = λ distinct node.
-      let parts = distinct-parts front back distinct in
-      own-halves node front back fs bs (f.own_order parts.0 node) (b.own_order parts.1 node)
-      (one-has-none node front back distinct f.journals_are b.journals_are)
-      ∙ sym (filter-append (is_step_of node) (all_steps front) (all_steps back)) ∙ ap (filter (is_step_of node)) (sym (steps-append front back));
+      let parts = distinct_parts front back distinct in
+      own_halves node front back fs bs (f.own_order parts.0 node) (b.own_order parts.1 node)
+      (one_has_none node front back distinct f.journals_are b.journals_are)
+      ∙ sym (filter-append (is_step_of node) (all_steps front) (all_steps back)) ∙ ap (filter (is_step_of node)) (sym (steps_append front back));
 }
 
 -- ---- a single journal
 
-rising-first : (x : Stamped) (later : List Stamped) → AllByRecursion (λ (y : Stamped). x.stamp < y.stamp) later
+rising_first : (x : Stamped) (later : List Stamped) → AllByRecursion (λ (y : Stamped). x.stamp < y.stamp) later
     → AllByRecursion (λ (y : Stamped). comes_first x y ≡ true) later
-rising-first x [] rises = tt
-rising-first x (y ∷ later) rises = (smaller_first x y rises.0, rising-first x later rises.1)
+rising_first x [] rises = tt
+rising_first x (y ∷ later) rises = (smaller_first x y rises.0, rising_first x later rises.1)
 
-rising-ordered : (steps : List Stamped) → Rises steps → IsInOrder steps
-rising-ordered [] rises = tt
-rising-ordered (x ∷ later) rises = (rising-first x later rises.0, rising-ordered later rises.1)
+rising_ordered : (steps : List Stamped) → Rises steps → IsInOrder steps
+rising_ordered [] rises = tt
+rising_ordered (x ∷ later) rises = (rising_first x later rises.0, rising_ordered later rises.1)
 
 single : (j : OwnSteps) → IsJournal j → AreSteps (j ∷ []) j.steps
 single j is = record {
   journals_are = (is, tt);
   each_once = subst (λ l. IsPermutation l j.steps) (sym (append-nil j.steps)) (IsPermutation-refl j.steps);
-  in_order = rising-ordered j.steps is.rises;
+  in_order = rising_ordered j.steps is.rises;
   own_order = λ distinct node. ap (filter (is_step_of node)) (sym (append-nil j.steps));
 }
 
@@ -163,9 +163,9 @@ only_one (k ∷ l ∷ more) j least most e = absurd (omega arith)
 
 -- ---- where one of two lists is at its end
 
-interleaved-nil : (xs : List Stamped) → interleaved comes_first xs [] ≡ xs
-interleaved-nil [] = refl
-interleaved-nil (x ∷ xs) = ap (λ (l : List Stamped). x ∷ l) (interleaved-nil xs)
+interleaved_nil : (xs : List Stamped) → interleaved comes_first xs [] ≡ xs
+interleaved_nil [] = refl
+interleaved_nil (x ∷ xs) = ap (λ (l : List Stamped). x ∷ l) (interleaved_nil xs)
 
 pub front_ends : (all front back : List (Bor Stamped)) → (length front == 0) ≡ true
     → values_of ((all ++ front) ++ back) ≡ values_of all ++ interleaved comes_first (values_of front) (values_of back)
@@ -176,7 +176,7 @@ pub back_ends : (all front back : List (Bor Stamped)) → (length back == 0) ≡
     → values_of ((all ++ front) ++ back) ≡ values_of all ++ interleaved comes_first (values_of front) (values_of back)
 back_ends all front [] ends =
     ap values_of (append-nil (all ++ front)) ∙ map-append (λ (b : Bor Stamped). b.now) all front
-    ∙ ap (λ l. values_of all ++ l) (sym (interleaved-nil (values_of front)))
+    ∙ ap (λ l. values_of all ++ l) (sym (interleaved_nil (values_of front)))
 back_ends all front (x ∷ back) ends = let none = eqb-true (length (x ∷ back)) 0 ends in absurd (omega arith)
 
 -- ---- as the code has them

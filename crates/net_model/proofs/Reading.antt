@@ -13,35 +13,35 @@ use Rattle.net_model.specs.inside.Kept.{entry_in, entries_in, entries_of, sends_
 -- ---- the entry at an index
 
 -- there are as many entries as steps
-length-entries : (c : Columns) (from at : ℕ) (ss : List KeptStep) → length (entries_in c from at ss) ≡ length ss
-length-entries c from at [] = refl
-length-entries c from at (s ∷ ss) = ap suc (length-entries c s.sends_end s.marks_end ss)
+length_entries : (c : Columns) (from at : ℕ) (ss : List KeptStep) → length (entries_in c from at ss) ≡ length ss
+length_entries c from at [] = refl
+length_entries c from at (s ∷ ss) = ap suc (length_entries c s.sends_end s.marks_end ss)
 
 pub length_entries_of : (c : Columns) → length (entries_of c) ≡ length c.steps
-length_entries_of c = length-entries c 0 0 c.steps
+length_entries_of c = length_entries c 0 0 c.steps
 
-entry-at : (c : Columns) (from at : ℕ) (ss : List KeptStep) (index : ℕ)
+entry_at : (c : Columns) (from at : ℕ) (ss : List KeptStep) (index : ℕ)
     → slice_get (entries_in c from at ss) index ≡ option_map (entry_in c (sends_before from ss index) (marks_before at ss index)) (slice_get ss index)
-entry-at c from at [] index = refl
-entry-at c from at (s ∷ ss) zero = refl
-entry-at c from at (s ∷ ss) (suc index) = entry-at c s.sends_end s.marks_end ss index
+entry_at c from at [] index = refl
+entry_at c from at (s ∷ ss) zero = refl
+entry_at c from at (s ∷ ss) (suc index) = entry_at c s.sends_end s.marks_end ss index
 
 pub entry_of_step : (c : Columns) (index : ℕ) (s : KeptStep) → slice_get c.steps index ≡ Some s
     → slice_get (entries_of c) index ≡ Some (entry_in c (sends_before 0 c.steps index) (marks_before 0 c.steps index) s)
-entry_of_step c index s e = entry-at c 0 0 c.steps index ∙ ap (option_map (entry_in c (sends_before 0 c.steps index) (marks_before 0 c.steps index))) e
+entry_of_step c index s e = entry_at c 0 0 c.steps index ∙ ap (option_map (entry_in c (sends_before 0 c.steps index) (marks_before 0 c.steps index))) e
 
 pub no_entry_of_step : (c : Columns) (index : ℕ) → slice_get c.steps index ≡ None → slice_get (entries_of c) index ≡ None
-no_entry_of_step c index e = entry-at c 0 0 c.steps index ∙ ap (option_map (entry_in c (sends_before 0 c.steps index) (marks_before 0 c.steps index))) e
+no_entry_of_step c index e = entry_at c 0 0 c.steps index ∙ ap (option_map (entry_in c (sends_before 0 c.steps index) (marks_before 0 c.steps index))) e
 
-step-at : (c : Columns) (from at : ℕ) (ss : List KeptStep) (index : ℕ) (s : KeptStep) → slice_get ss index ≡ Some s → AreStepsIn c from at ss
+step_at : (c : Columns) (from at : ℕ) (ss : List KeptStep) (index : ℕ) (s : KeptStep) → slice_get ss index ≡ Some s → AreStepsIn c from at ss
     → IsStepIn c (sends_before from ss index) (marks_before at ss index) s
-step-at c from at [] index s e h = absurd (cc)
-step-at c from at (x ∷ ss) zero s e h = let same : x ≡ s = cc in subst (IsStepIn c from at) same h.0
-step-at c from at (x ∷ ss) (suc index) s e h = step-at c x.sends_end x.marks_end ss index s e h.1
+step_at c from at [] index s e h = absurd (cc)
+step_at c from at (x ∷ ss) zero s e h = let same : x ≡ s = cc in subst (IsStepIn c from at) same h.0
+step_at c from at (x ∷ ss) (suc index) s e h = step_at c x.sends_end x.marks_end ss index s e h.1
 
 pub step_within : (c : Columns) (index : ℕ) (s : KeptStep) → slice_get c.steps index ≡ Some s → IsWhole c
     → IsStepIn c (sends_before 0 c.steps index) (marks_before 0 c.steps index) s
-step_within c index s e w = step-at c 0 0 c.steps index s e w
+step_within c index s e w = step_at c 0 0 c.steps index s e w
 
 -- a step's sends and marks begin where those of the one before it end
 pub sends_follow : (from : ℕ) (ss : List KeptStep) (index : ℕ) (s : KeptStep) → slice_get ss index ≡ Some s → sends_before from ss (suc index) ≡ s.sends_end
@@ -56,44 +56,44 @@ marks_follow at (x ∷ ss) (suc index) s e = marks_follow x.marks_end ss index s
 
 -- ---- all that was sent and shown
 
-drop-all : {X : Type 0} (n : ℕ) (xs : List X) → n ≡ length xs → drop n xs ≡ []
-drop-all zero [] e = refl
-drop-all zero (x ∷ xs) e = absurd (omega arith)
-drop-all (suc n) [] e = absurd (omega arith)
-drop-all (suc n) (x ∷ xs) e = drop-all n xs (omega arith)
+drop_all : {X : Type 0} (n : ℕ) (xs : List X) → n ≡ length xs → drop n xs ≡ []
+drop_all zero [] e = refl
+drop_all zero (x ∷ xs) e = absurd (omega arith)
+drop_all (suc n) [] e = absurd (omega arith)
+drop_all (suc n) (x ∷ xs) e = drop_all n xs (omega arith)
 
 -- what an entry before all others sent comes first
-sent-first : (past : Past) (e : HistoryEntry) → sent (past ++ e ∷ []) ≡ e.sends ++ sent past
-sent-first [] e = sym (append-nil e.sends)
-sent-first (x ∷ past) e = ap (λ l. l ++ x.sends) (sent-first past e) ∙ append_assoc e.sends (sent past) x.sends
+sent_first : (past : Past) (e : HistoryEntry) → sent (past ++ e ∷ []) ≡ e.sends ++ sent past
+sent_first [] e = sym (append-nil e.sends)
+sent_first (x ∷ past) e = ap (λ l. l ++ x.sends) (sent_first past e) ∙ append_assoc e.sends (sent past) x.sends
 
-shown-first : (past : Past) (e : HistoryEntry) → shown (past ++ e ∷ []) ≡ e.marks ++ shown past
-shown-first [] e = sym (append-nil e.marks)
-shown-first (x ∷ past) e = ap (λ l. l ++ x.marks) (shown-first past e) ∙ append_assoc e.marks (shown past) x.marks
+shown_first : (past : Past) (e : HistoryEntry) → shown (past ++ e ∷ []) ≡ e.marks ++ shown past
+shown_first [] e = sym (append-nil e.marks)
+shown_first (x ∷ past) e = ap (λ l. l ++ x.marks) (shown_first past e) ∙ append_assoc e.marks (shown past) x.marks
 
-past-first : (e : HistoryEntry) (later : List HistoryEntry) → past_of (e ∷ later) ≡ past_of later ++ e ∷ []
-past-first e later = reverse-append (e ∷ []) later
+past_first : (e : HistoryEntry) (later : List HistoryEntry) → past_of (e ∷ later) ≡ past_of later ++ e ∷ []
+past_first e later = reverse-append (e ∷ []) later
 
-sent-from : (c : Columns) (from at : ℕ) (ss : List KeptStep) → AreStepsIn c from at ss → sent (past_of (entries_in c from at ss)) ≡ drop from c.messages
-sent-from c from at [] h = sym (drop-all from c.messages h.0)
-sent-from c from at (s ∷ ss) h =
+sent_from : (c : Columns) (from at : ℕ) (ss : List KeptStep) → AreStepsIn c from at ss → sent (past_of (entries_in c from at ss)) ≡ drop from c.messages
+sent_from c from at [] h = sym (drop_all from c.messages h.0)
+sent_from c from at (s ∷ ss) h =
     let later = entries_in c s.sends_end s.marks_end ss in
-    ap sent (past-first (entry_in c from at s) later)
-    ∙ sent-first (past_of later) (entry_in c from at s)
-    ∙ ap (λ l. slice_range c.messages from s.sends_end ++ l) (sent-from c s.sends_end s.marks_end ss h.1)
+    ap sent (past_first (entry_in c from at s) later)
+    ∙ sent_first (past_of later) (entry_in c from at s)
+    ∙ ap (λ l. slice_range c.messages from s.sends_end ++ l) (sent_from c s.sends_end s.marks_end ss h.1)
     ∙ sym (drop_split c.messages from s.sends_end h.0.sends_rise)
 
-shown-from : (c : Columns) (from at : ℕ) (ss : List KeptStep) → AreStepsIn c from at ss → shown (past_of (entries_in c from at ss)) ≡ drop at c.marks
-shown-from c from at [] h = sym (drop-all at c.marks h.1)
-shown-from c from at (s ∷ ss) h =
+shown_from : (c : Columns) (from at : ℕ) (ss : List KeptStep) → AreStepsIn c from at ss → shown (past_of (entries_in c from at ss)) ≡ drop at c.marks
+shown_from c from at [] h = sym (drop_all at c.marks h.1)
+shown_from c from at (s ∷ ss) h =
     let later = entries_in c s.sends_end s.marks_end ss in
-    ap shown (past-first (entry_in c from at s) later)
-    ∙ shown-first (past_of later) (entry_in c from at s)
-    ∙ ap (λ l. slice_range c.marks at s.marks_end ++ l) (shown-from c s.sends_end s.marks_end ss h.1)
+    ap shown (past_first (entry_in c from at s) later)
+    ∙ shown_first (past_of later) (entry_in c from at s)
+    ∙ ap (λ l. slice_range c.marks at s.marks_end ++ l) (shown_from c s.sends_end s.marks_end ss h.1)
     ∙ sym (drop_split c.marks at s.marks_end h.0.marks_rise)
 
 pub sent_all : (c : Columns) (history : List HistoryEntry) → IsWhole c → entries_of c ≡ history → c.messages ≡ sent (past_of history)
-sent_all c history w e = sym (sent-from c 0 0 c.steps w) ∙ ap (λ h. sent (past_of h)) e
+sent_all c history w e = sym (sent_from c 0 0 c.steps w) ∙ ap (λ h. sent (past_of h)) e
 
 pub shown_all : (c : Columns) (history : List HistoryEntry) → IsWhole c → entries_of c ≡ history → c.marks ≡ shown (past_of history)
-shown_all c history w e = sym (shown-from c 0 0 c.steps w) ∙ ap (λ h. shown (past_of h)) e
+shown_all c history w e = sym (shown_from c 0 0 c.steps w) ∙ ap (λ h. shown (past_of h)) e

@@ -52,22 +52,22 @@ valid_append (x ∷ xs) ys front back = (front.0, valid_append xs ys front.1 bac
 
 -- ---- what a node stored is what its vault keeps
 
-all-append : (a b : Chunks) → all_items (a ++ b) ≡ all_items a ++ all_items b
-all-append [] b = refl
-all-append (x ∷ a) b = ap (λ l. x ++ l) (all-append a b) ∙ sym (append_assoc x (all_items a) (all_items b))
+all_append : (a b : Chunks) → all_items (a ++ b) ≡ all_items a ++ all_items b
+all_append [] b = refl
+all_append (x ∷ a) b = ap (λ l. x ++ l) (all_append a b) ∙ sym (append_assoc x (all_items a) (all_items b))
 
-all-chunk : (items : List Item) → all_items (chunk_of items) ≡ items
-all-chunk [] = refl
-all-chunk (x ∷ items) = append-nil (x ∷ items)
+all_chunk : (items : List Item) → all_items (chunk_of items) ≡ items
+all_chunk [] = refl
+all_chunk (x ∷ items) = append-nil (x ∷ items)
 
-stored-if : {S : Type 0} (own : Bool) (table : StepTable S) (event : Event) (p : Progress S) (chunks : Chunks) → p.stored ≡ all_items chunks
+stored_if : {S : Type 0} (own : Bool) (table : StepTable S) (event : Event) (p : Progress S) (chunks : Chunks) → p.stored ≡ all_items chunks
     → (step_if own table event p).stored ≡ all_items (chunks ++ chunk_if own table p.state event)
-stored-if true table event p chunks is =
+stored_if true table event p chunks is =
     let new = (table.gives p.state event).stable in
-    ap (λ l. l ++ new) is ∙ ap (λ l. all_items chunks ++ l) (sym (all-chunk new)) ∙ sym (all-append chunks (chunk_of new))
-stored-if false table event p chunks is = is ∙ ap all_items (sym (append-nil chunks))
+    ap (λ l. l ++ new) is ∙ ap (λ l. all_items chunks ++ l) (sym (all_chunk new)) ∙ sym (all_append chunks (chunk_of new))
+stored_if false table event p chunks is = is ∙ ap all_items (sym (append-nil chunks))
 
 pub stored_is : {S : Type 0} (table : StepTable S) (node : NodeId) (past : Past) → items_of table node past ≡ all_items (chunks_of table node past)
 stored_is table node [] = refl
 stored_is table node (e ∷ past) =
-    stored-if (same_node e.node node) table e.event (progress_of table node past) (chunks_of table node past) (stored_is table node past)
+    stored_if (same_node e.node node) table e.event (progress_of table node past) (chunks_of table node past) (stored_is table node past)

@@ -156,9 +156,9 @@ module _ {N D : Type 0} (rules : NodeRules N) (disk : DiskRules D) where
   abbrev pub AreRead : List Item → Store D → Store D → Type 0
   AreRead items before after = (chunks : Chunks) → KeepsChunks disk before chunks → (items ≡ all_items chunks) × KeepsChunks disk after chunks
 
-  restarted-on : (core : NodeCore N D) (store : Store D) (after : NodeCore N D) (items : List Item) (outs outs' : List Sending) → AreRead items core.store store
+  restarted_on : (core : NodeCore N D) (store : Store D) (after : NodeCore N D) (items : List Item) (outs outs' : List Sending) → AreRead items core.store store
       → RestartedBy rules disk items (with_store core store) after outs outs' → Restarted rules disk core after outs outs'
-  restarted-on core store after items outs outs' reads by =
+  restarted_on core store after items outs outs' reads by =
       let table = table_at rules core.cfg core.name in
       by core.store
       (λ at.
@@ -168,4 +168,4 @@ module _ {N D : Type 0} (rules : NodeRules N) (disk : DiskRules D) where
   pub restarted : (core loaded after : NodeCore N D) (items : List Item) (outs outs' : List Sending) → loaded ≡ with_store core loaded.store
       → AreRead items core.store loaded.store → RestartedBy rules disk items loaded after outs outs' → Restarted rules disk core after outs outs'
   restarted core loaded after items outs outs' same reads by =
-      restarted-on core loaded.store after items outs outs' reads (subst (λ c. RestartedBy rules disk items c after outs outs') same by)
+      restarted_on core loaded.store after items outs outs' reads (subst (λ c. RestartedBy rules disk items c after outs outs') same by)

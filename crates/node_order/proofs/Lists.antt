@@ -4,7 +4,7 @@ use Rattle.std.specs.List.{AllByRecursion, range_with_len, flat_map, slice_get}
 use Rattle.std.proofs.lemmas.List.{append-nil}
 use Rattle.std.proofs.lemmas.List.FromFn.{map-range_with_len_more}
 use Rattle.std.proofs.lemmas.List.Concat.{flat_map-append}
-use Rattle.fix_ante.proofs.LocalLemmas.{range_with_len-append}
+use Rattle.fix_ante.proofs.LocalLemmas.{range_with_len_append}
 
 -- what holds at each place holds of each
 pub all_from : {X : Type 0} → (P : X → Type 0) (xs : List X) → ((i : ℕ) (x : X) → slice_get xs i ≡ Some x → P x) → AllByRecursion P xs
@@ -25,6 +25,6 @@ several_more {X} f base now later n so_far e =
     e ∙ ap (λ (xs : List X). xs ++ f n) so_far ∙ append_assoc base (flat_map f (range_with_len 0 n)) (f n)
     ∙ ap (λ (xs : List X). base ++ xs)
     (sym
-    (ap (flat_map f) (sym (range_with_len-append 0 n 1) ∙ ap (λ (k : ℕ). range_with_len 0 n ++ k ∷ []) at)
+    (ap (flat_map f) (sym (range_with_len_append 0 n 1) ∙ ap (λ (k : ℕ). range_with_len 0 n ++ k ∷ []) at)
     ∙ flat_map-append f (range_with_len 0 n) (n ∷ [])
     ∙ ap (λ (xs : List X). flat_map f (range_with_len 0 n) ++ xs) (append-nil (f n))))

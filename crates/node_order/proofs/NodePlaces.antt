@@ -4,7 +4,7 @@ use Rattle.std.specs.List.{AllByRecursion, range_with_len, flat_map, slice_get}
 use Rattle.std.proofs.lemmas.Bool.{cases_lt}
 use Rattle.std.proofs.lemmas.List.FromFn.{length-map-range_with_len, get_or-map-range_with_len}
 use Rattle.std.proofs.lemmas.Option.{slice_get_within, slice_get-get_or}
-use Rattle.fix_ante.proofs.Entries.{slice_get-append_left, slice_get-append_right}
+use Rattle.fix_ante.proofs.Entries.{slice_get_append_left, slice_get_append_right}
 use Rattle.msg_wire.specs.Nodes.{sequencers_of, replicas_of, all_replicas_of, clients_of, consumers_of, nodes_of}
 use Rattle.msg_wire.specs.Valid.{IsNodeOf}
 use Rattle.node_order.specs.Places.{rank_of}
@@ -22,9 +22,9 @@ numbered f n i below =
     slice_get-get_or (map f (range_with_len 0 n)) i (f 0) (omega (arith, below, length-map-range_with_len f 0 n))
     ∙ ap (λ x. Some x) (get_or-map-range_with_len f 0 n i i (f 0) below at)
 
-length-pairs : (a n : ℕ) → length (flat_map replicas_of (range_with_len a n)) ≡ 2 * n
-length-pairs a zero = refl
-length-pairs a (suc n) = omega (arith, length-pairs (a + 1) n)
+length_pairs : (a n : ℕ) → length (flat_map replicas_of (range_with_len a n)) ≡ 2 * n
+length_pairs a zero = refl
+length_pairs a (suc n) = omega (arith, length_pairs (a + 1) n)
 
 -- a side's place in its pair
 abbrev place_in : Side → ℕ
@@ -47,14 +47,14 @@ pair_there a (suc n) (suc k) side below =
 
 -- ---- each kind has its part of the order
 
-length-sequencers : (c : Config) → length (sequencers_of c) ≡ c.seqs
-length-sequencers c = length-map-range_with_len nodes.Seq 0 c.seqs
+length_sequencers : (c : Config) → length (sequencers_of c) ≡ c.seqs
+length_sequencers c = length-map-range_with_len nodes.Seq 0 c.seqs
 
-length-replicas : (c : Config) → length (all_replicas_of c) ≡ 2 * c.shards
-length-replicas c = length-pairs 0 c.shards
+length_replicas : (c : Config) → length (all_replicas_of c) ≡ 2 * c.shards
+length_replicas c = length_pairs 0 c.shards
 
-length-clients : (c : Config) → length (clients_of c) ≡ length c.homes
-length-clients c = length-map-range_with_len nodes.Client 0 (length c.homes)
+length_clients : (c : Config) → length (clients_of c) ≡ length c.homes
+length_clients c = length-map-range_with_len nodes.Client 0 (length c.homes)
 
 abbrev from_replicas : Config → List NodeId
 from_replicas c = all_replicas_of c ++ (clients_of c ++ consumers_of c)
@@ -64,29 +64,29 @@ rank_shard c n sides.Primary = omega arith
 rank_shard c n sides.Backup = omega arith
 
 -- a node stands at its place
-pub place-there : (c : Config) (node : NodeId) → IsNodeOf c node → slice_get (nodes_of c) (rank_of c node) ≡ Some node
-place-there c (nodes.Seq n) here =
-    slice_get-append_left (sequencers_of c) (from_replicas c) n (omega (arith, here, length-sequencers c)) ∙ numbered nodes.Seq c.seqs n here
-place-there c (nodes.Shard n side) here =
+pub place_there : (c : Config) (node : NodeId) → IsNodeOf c node → slice_get (nodes_of c) (rank_of c node) ≡ Some node
+place_there c (nodes.Seq n) here =
+    slice_get_append_left (sequencers_of c) (from_replicas c) n (omega (arith, here, length_sequencers c)) ∙ numbered nodes.Seq c.seqs n here
+place_there c (nodes.Shard n side) here =
     let at : 0 + n ≡ n = omega arith in
     let below : 2 * n + place_in side < 2 * c.shards = place_below side n c.shards here in
     ap (slice_get (nodes_of c)) (rank_shard c n side)
-    ∙ slice_get-append_right (sequencers_of c) (from_replicas c) c.seqs (2 * n + place_in side) (length-sequencers c)
-    ∙ slice_get-append_left (all_replicas_of c) (clients_of c ++ consumers_of c) (2 * n + place_in side) (omega (arith, below, length-replicas c))
+    ∙ slice_get_append_right (sequencers_of c) (from_replicas c) c.seqs (2 * n + place_in side) (length_sequencers c)
+    ∙ slice_get_append_left (all_replicas_of c) (clients_of c ++ consumers_of c) (2 * n + place_in side) (omega (arith, below, length_replicas c))
     ∙ pair_there 0 c.shards n side here ∙ ap (λ (k : ℕ). Some (nodes.Shard k side)) at
-place-there c (nodes.Client n) here =
+place_there c (nodes.Client n) here =
     let next : c.seqs + 2 * c.shards + n ≡ c.seqs + (2 * c.shards + n) = omega arith in
     ap (slice_get (nodes_of c)) next
-    ∙ slice_get-append_right (sequencers_of c) (from_replicas c) c.seqs (2 * c.shards + n) (length-sequencers c)
-    ∙ slice_get-append_right (all_replicas_of c) (clients_of c ++ consumers_of c) (2 * c.shards) n (length-replicas c)
-    ∙ slice_get-append_left (clients_of c) (consumers_of c) n (omega (arith, here, length-clients c))
+    ∙ slice_get_append_right (sequencers_of c) (from_replicas c) c.seqs (2 * c.shards + n) (length_sequencers c)
+    ∙ slice_get_append_right (all_replicas_of c) (clients_of c ++ consumers_of c) (2 * c.shards) n (length_replicas c)
+    ∙ slice_get_append_left (clients_of c) (consumers_of c) n (omega (arith, here, length_clients c))
     ∙ numbered nodes.Client (length c.homes) n here
-place-there c (nodes.Consumer n) here =
+place_there c (nodes.Consumer n) here =
     let next : c.seqs + 2 * c.shards + length c.homes + n ≡ c.seqs + (2 * c.shards + (length c.homes + n)) = omega arith in
     ap (slice_get (nodes_of c)) next
-    ∙ slice_get-append_right (sequencers_of c) (from_replicas c) c.seqs (2 * c.shards + (length c.homes + n)) (length-sequencers c)
-    ∙ slice_get-append_right (all_replicas_of c) (clients_of c ++ consumers_of c) (2 * c.shards) (length c.homes + n) (length-replicas c)
-    ∙ slice_get-append_right (clients_of c) (consumers_of c) (length c.homes) n (length-clients c)
+    ∙ slice_get_append_right (sequencers_of c) (from_replicas c) c.seqs (2 * c.shards + (length c.homes + n)) (length_sequencers c)
+    ∙ slice_get_append_right (all_replicas_of c) (clients_of c ++ consumers_of c) (2 * c.shards) (length c.homes + n) (length_replicas c)
+    ∙ slice_get_append_right (clients_of c) (consumers_of c) (length c.homes) n (length_clients c)
     ∙ numbered nodes.Consumer c.consumers n here
 
 -- ---- what stands at a place
@@ -102,51 +102,51 @@ StandsAt c i node = (rank_of c node ≡ i) × IsNodeOf c node
 found : (c : Config) (i : ℕ) (here node : NodeId) → Some here ≡ Some node → StandsAt c i here → StandsAt c i node
 found c i here node e stands = let same : here ≡ node = cc in subst (StandsAt c i) same stands
 
-stands-append : (c : Config) (base n : ℕ) (xs ys : List NodeId) → length xs ≡ n → StandsFrom c base xs → StandsFrom c (base + n) ys
+stands_append : (c : Config) (base n : ℕ) (xs ys : List NodeId) → length xs ≡ n → StandsFrom c base xs → StandsFrom c (base + n) ys
     → StandsFrom c base (xs ++ ys)
-stands-append c base n xs ys size first second i node e =
+stands_append c base n xs ys size first second i node e =
     elim (cases_lt i n) [
-      | inl below ↦ first i node (sym (slice_get-append_left xs ys i (omega (arith, below, size))) ∙ e)
+      | inl below ↦ first i node (sym (slice_get_append_left xs ys i (omega (arith, below, size))) ∙ e)
       | inr above ↦
           let at : n + (i - n) ≡ i = omega (arith, above) in
-          let there : slice_get ys (i - n) ≡ Some node = sym (slice_get-append_right xs ys n (i - n) size) ∙ ap (slice_get (xs ++ ys)) at ∙ e in
+          let there : slice_get ys (i - n) ≡ Some node = sym (slice_get_append_right xs ys n (i - n) size) ∙ ap (slice_get (xs ++ ys)) at ∙ e in
           let stands = second (i - n) node there in
           (omega (arith, stands.0, at), stands.1)
     ]
 
-stands-numbered : (c : Config) (base n : ℕ) (f : ℕ → NodeId) → ((i : ℕ) → i < n → StandsAt c (base + i) (f i)) → StandsFrom c base (map f (range_with_len 0 n))
-stands-numbered c base n f each i node e =
+stands_numbered : (c : Config) (base n : ℕ) (f : ℕ → NodeId) → ((i : ℕ) → i < n → StandsAt c (base + i) (f i)) → StandsFrom c base (map f (range_with_len 0 n))
+stands_numbered c base n f each i node e =
     let within : i < n = omega (arith, slice_get_within (map f (range_with_len 0 n)) i node e, length-map-range_with_len f 0 n) in
     found c (base + i) (f i) node (sym (numbered f n i within) ∙ e) (each i within)
 
-stands-pairs : (c : Config) (a n : ℕ) → a + n ≤ c.shards → StandsFrom c (c.seqs + 2 * a) (flat_map replicas_of (range_with_len a n))
-stands-pairs c a zero few i node e = absurd (cc)
-stands-pairs c a (suc n) few zero node e = found c (c.seqs + 2 * a + 0) (nodes.Shard a sides.Primary) node e (omega arith, omega arith)
-stands-pairs c a (suc n) few (suc zero) node e = found c (c.seqs + 2 * a + 1) (nodes.Shard a sides.Backup) node e (omega arith, omega arith)
-stands-pairs c a (suc n) few (suc (suc i)) node e =
-    let stands = stands-pairs c (a + 1) n (omega arith) i node e in
+stands_pairs : (c : Config) (a n : ℕ) → a + n ≤ c.shards → StandsFrom c (c.seqs + 2 * a) (flat_map replicas_of (range_with_len a n))
+stands_pairs c a zero few i node e = absurd (cc)
+stands_pairs c a (suc n) few zero node e = found c (c.seqs + 2 * a + 0) (nodes.Shard a sides.Primary) node e (omega arith, omega arith)
+stands_pairs c a (suc n) few (suc zero) node e = found c (c.seqs + 2 * a + 1) (nodes.Shard a sides.Backup) node e (omega arith, omega arith)
+stands_pairs c a (suc n) few (suc (suc i)) node e =
+    let stands = stands_pairs c (a + 1) n (omega arith) i node e in
     (omega (arith, stands.0), stands.1)
 
 -- what stands at a place is a node of the cluster, and the place is its own
-pub place-only : (c : Config) (i : ℕ) (node : NodeId) → slice_get (nodes_of c) i ≡ Some node → (rank_of c node ≡ i) × IsNodeOf c node
-place-only c i node e =
-    let seqs : StandsFrom c 0 (sequencers_of c) = stands-numbered c 0 c.seqs nodes.Seq (λ k below. (omega arith, below)) in
+pub place_only : (c : Config) (i : ℕ) (node : NodeId) → slice_get (nodes_of c) i ≡ Some node → (rank_of c node ≡ i) × IsNodeOf c node
+place_only c i node e =
+    let seqs : StandsFrom c 0 (sequencers_of c) = stands_numbered c 0 c.seqs nodes.Seq (λ k below. (omega arith, below)) in
     let replicas : StandsFrom c (0 + c.seqs) (all_replicas_of c) =
-    (λ k x there. let stands = stands-pairs c 0 c.shards (omega arith) k x there in (omega (arith, stands.0), stands.1)) in
+    (λ k x there. let stands = stands_pairs c 0 c.shards (omega arith) k x there in (omega (arith, stands.0), stands.1)) in
     let clients : StandsFrom c (0 + c.seqs + 2 * c.shards) (clients_of c) =
-    stands-numbered c (0 + c.seqs + 2 * c.shards) (length c.homes) nodes.Client (λ k below. (omega arith, below)) in
+    stands_numbered c (0 + c.seqs + 2 * c.shards) (length c.homes) nodes.Client (λ k below. (omega arith, below)) in
     let consumers : StandsFrom c (0 + c.seqs + 2 * c.shards + length c.homes) (consumers_of c) =
-    stands-numbered c (0 + c.seqs + 2 * c.shards + length c.homes) c.consumers nodes.Consumer (λ k below. (omega arith, below)) in
-    let last = stands-append c (0 + c.seqs + 2 * c.shards) (length c.homes) (clients_of c) (consumers_of c) (length-clients c) clients consumers in
-    let middle = stands-append c (0 + c.seqs) (2 * c.shards) (all_replicas_of c) (clients_of c ++ consumers_of c) (length-replicas c) replicas last in
-    let whole = stands-append c 0 c.seqs (sequencers_of c) (all_replicas_of c ++ (clients_of c ++ consumers_of c)) (length-sequencers c) seqs middle in
+    stands_numbered c (0 + c.seqs + 2 * c.shards + length c.homes) c.consumers nodes.Consumer (λ k below. (omega arith, below)) in
+    let last = stands_append c (0 + c.seqs + 2 * c.shards) (length c.homes) (clients_of c) (consumers_of c) (length_clients c) clients consumers in
+    let middle = stands_append c (0 + c.seqs) (2 * c.shards) (all_replicas_of c) (clients_of c ++ consumers_of c) (length_replicas c) replicas last in
+    let whole = stands_append c 0 c.seqs (sequencers_of c) (all_replicas_of c ++ (clients_of c ++ consumers_of c)) (length_sequencers c) seqs middle in
     let stands = whole i node e in
     (omega (arith, stands.0), stands.1)
 
 -- every node's place is within the order
 pub place_within : (c : Config) (node : NodeId) → IsNodeOf c node → rank_of c node < length (nodes_of c)
-place_within c node here = slice_get_within (nodes_of c) (rank_of c node) node (place-there c node here)
+place_within c node here = slice_get_within (nodes_of c) (rank_of c node) node (place_there c node here)
 
 -- all nodes are the cluster's
 pub nodes_within : (c : Config) → AllByRecursion (IsNodeOf c) (nodes_of c)
-nodes_within c = all_from (IsNodeOf c) (nodes_of c) (λ i node e. (place-only c i node e).1)
+nodes_within c = all_from (IsNodeOf c) (nodes_of c) (λ i node e. (place_only c i node e).1)

@@ -6,11 +6,11 @@ use Rattle.std.proofs.lemmas.Option.{slice_get_within}
 use Rattle.cut_core.specs.Fold.{HasValidTable}
 use Rattle.cut_core.specs.Map.{covered_locals, placed}
 use Rattle.cut_core.specs.Soundness.{IsSound}
-use Rattle.cut_core.proofs.Sound.{IsSound-fold_of}
-use Rattle.cut_core.proofs.AgreeingLemmas.{slots-applied_all}
-use Rattle.cut_core.proofs.Dense.{slice_get-index_of}
-use Rattle.cut_core.proofs.Finding.{count_of-le}
-use Rattle.cut_core.proofs.Reach.{covered-reach}
+use Rattle.cut_core.proofs.Sound.{IsSound_fold_of}
+use Rattle.cut_core.proofs.AgreeingLemmas.{slots_applied_all}
+use Rattle.cut_core.proofs.Dense.{slice_get_index_of}
+use Rattle.cut_core.proofs.Finding.{count_of_le}
+use Rattle.cut_core.proofs.Reach.{covered_reach}
 use Rattle.quota_table.specs.Entries.{IsValidEntry}
 use Rattle.spec_base.specs.Spelling.{IsValidNode}
 use Rattle.msg_wire.specs.Valid.{IsValidConfig, IsNodeOf}
@@ -119,22 +119,22 @@ all_foldable [] valid = tt
 all_foldable (entry ∷ known) valid = (foldable entry valid.0, all_foldable known valid.1)
 
 pub agreed_sound : (b : Base) → IsBase b → IsSound (agreed_by b)
-agreed_sound b is = IsSound-fold_of b.cfg.rounds b.cfg.table b.known is.cfg.rounds.0 is.cfg.rounds.1 is.cfg.rows.table is.few (all_foldable b.known is.entries)
+agreed_sound b is = IsSound_fold_of b.cfg.rounds b.cfg.table b.known is.cfg.rounds.0 is.cfg.rounds.1 is.cfg.rows.table is.few (all_foldable b.known is.entries)
 
 -- at most 2^48 positions are covered
 pub covered_limit : (b : Base) → IsBase b → length (agreed_by b).covered ≤ 2 ^ 48
 covered_limit b is =
-    let slots : (agreed_by b).slots ≡ 0 + length b.known = slots-applied_all _ b.known in
-    covered-reach (agreed_by b) (agreed_sound b is) (omega (arith, slots, is.few))
+    let slots : (agreed_by b).slots ≡ 0 + length b.known = slots_applied_all _ b.known in
+    covered_reach (agreed_by b) (agreed_sound b is) (omega (arith, slots, is.few))
 
 -- and so many locals of a shard
 pub locals_limit : (b : Base) (shard : ℕ) → IsBase b → covered_locals (agreed_by b) shard ≤ 2 ^ 48
-locals_limit b shard is = omega (arith, count_of-le shard (agreed_by b).covered, covered_limit b is)
+locals_limit b shard is = omega (arith, count_of_le shard (agreed_by b).covered, covered_limit b is)
 
 -- a covered local has a position below
 pub placed_limit : (b : Base) (shard local p : ℕ) → IsBase b → placed (agreed_by b) shard local ≡ Some p → p ≤ 2 ^ 48
 placed_limit b shard local p is e =
-    omega (arith, slice_get_within (agreed_by b).covered p _ (slice_get-index_of (agreed_by b).covered shard local p e), covered_limit b is)
+    omega (arith, slice_get_within (agreed_by b).covered p _ (slice_get_index_of (agreed_by b).covered shard local p e), covered_limit b is)
 
 -- a restart leaves a base
 pub base_reset : (b : Base) → IsBase b → IsBase (reset_base b)

@@ -5,7 +5,7 @@ use Rattle.std.proofs.lemmas.List.{map-append}
 use Rattle.std.proofs.lemmas.List.Elements.{filter-append}
 use Rattle.std.proofs.lemmas.List.FromFn.{map-range_with_len_more}
 use Rattle.std.proofs.lemmas.Grind.{flat_map-append}
-use Rattle.fix_ante.proofs.LocalLemmas.{range_with_len-append}
+use Rattle.fix_ante.proofs.LocalLemmas.{range_with_len_append}
 use Rattle.msg_wire.specs.Nodes.{without_node, replicas_of, sequencers_of, all_replicas_of, clients_of, consumers_of, nodes_of}
 use Rattle.node_rules.specs.Names.{NodeId, Message, What, Config}
 use Rattle.node_rules.specs.Turns.{Turn, send_all, message_to}
@@ -43,7 +43,7 @@ others_more me f n = ap (without_node me) (numbers_more f n) ∙ others_append m
 pub other_replicas_more : (me : NodeId) (n : ℕ)
     → without_node me (flat_map replicas_of (range_with_len 0 (n + 1))) ≡ without_node me (flat_map replicas_of (range_with_len 0 n)) ++ without_node me (replicas_of n)
 other_replicas_more me n =
-    let more : range_with_len 0 (n + 1) ≡ range_with_len 0 n ++ n ∷ [] = sym (range_with_len-append 0 n 1) ∙ ap (λ (k : ℕ). range_with_len 0 n ++ k ∷ []) (omega arith) in
+    let more : range_with_len 0 (n + 1) ≡ range_with_len 0 n ++ n ∷ [] = sym (range_with_len_append 0 n 1) ∙ ap (λ (k : ℕ). range_with_len 0 n ++ k ∷ []) (omega arith) in
     ap (λ (shards : List ℕ). without_node me (flat_map replicas_of shards)) more
     ∙ ap (without_node me) (flat_map-append replicas_of (range_with_len 0 n) (n ∷ []))
     ∙ others_append me (flat_map replicas_of (range_with_len 0 n)) (replicas_of n)

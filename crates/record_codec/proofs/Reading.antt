@@ -12,11 +12,11 @@ use Rattle.record_codec.specs.Reading.{Reader, ◌>>=◌, byte_at, number_at, tw
 abbrev pub IsBytes : List ℕ → Type 0
 IsBytes bytes = (i : ℕ) → get_or bytes i 0 < 256
 
-pub IsBytes-drop : (n : ℕ) (bytes : List ℕ) → IsBytes bytes → IsBytes (drop n bytes)
-IsBytes-drop n bytes h i = rw get_or-drop (h (n + i))
+pub IsBytes_drop : (n : ℕ) (bytes : List ℕ) → IsBytes bytes → IsBytes (drop n bytes)
+IsBytes_drop n bytes h i = rw get_or-drop (h (n + i))
 
-IsBytes-take : (n : ℕ) (bytes : List ℕ) → IsBytes bytes → IsBytes (take n bytes)
-IsBytes-take n bytes h i =
+IsBytes_take : (n : ℕ) (bytes : List ℕ) → IsBytes bytes → IsBytes (take n bytes)
+IsBytes_take n bytes h i =
     elim (cases_lt i n) [
       | inl lt ↦ rw (get_or-take n bytes i 0 lt) (h i)
       | inr le ↦ rw (get_or_past (take n bytes) i 0 (omega (arith, length-take n bytes))) (omega arith)
@@ -57,8 +57,8 @@ pub record Took (bytes : List ℕ) (at : ℕ) (text : List ℕ) (after : ℕ) : 
   pub parts : drop at bytes ≡ text ++ drop after bytes
   pub place : after ≡ at + length text
 
-pub Took-then : (bytes : List ℕ) (at mid after : ℕ) (x y : List ℕ) → Took bytes at x mid → Took bytes mid y after → Took bytes at (x ++ y) after
-Took-then bytes at mid after x y p q = record {
+pub Took_then : (bytes : List ℕ) (at mid after : ℕ) (x y : List ℕ) → Took bytes at x mid → Took bytes mid y after → Took bytes at (x ++ y) after
+Took_then bytes at mid after x y p q = record {
   parts = p.parts ∙ ap (λ (t : List ℕ). x ++ t) q.parts ∙ sym (append_assoc x y (drop after bytes));
   place = omega (arith, p.place, q.place, length-append x y);
 }
@@ -119,13 +119,13 @@ number_took w limit wide bytes at x fits e =
     let tail = drop at bytes in
     let g = guard_some (ltb (length bytes - at) (byte_len w)) (from_be_bytes w (take (byte_len w) (drop at bytes)), at + byte_len w) x e in
     let long : byte_len w ≤ length bytes - at = ltb-false _ _ g.0 in
-    let tail_fits : IsBytes (drop at bytes) = IsBytes-drop at bytes fits in
-    let front_fits : IsBytes (take (byte_len w) (drop at bytes)) = IsBytes-take (byte_len w) (drop at bytes) tail_fits in
-    let n-is : from_be_bytes w (take (byte_len w) (drop at bytes)) ≡ x.0 = ap (λ (p : ℕ × ℕ). p.0) g.1 in
-    let after-is : at + byte_len w ≡ x.1 = ap (λ (p : ℕ × ℕ). p.1) g.1 in
-    let front : to_be_bytes w x.0 ≡ take (byte_len w) (drop at bytes) = rw (← n-is) (wide.back (take (byte_len w) (drop at bytes)) (omega (arith, length-take (byte_len w) (drop at bytes), length-drop at bytes)) front_fits) in
+    let tail_fits : IsBytes (drop at bytes) = IsBytes_drop at bytes fits in
+    let front_fits : IsBytes (take (byte_len w) (drop at bytes)) = IsBytes_take (byte_len w) (drop at bytes) tail_fits in
+    let n_is : from_be_bytes w (take (byte_len w) (drop at bytes)) ≡ x.0 = ap (λ (p : ℕ × ℕ). p.0) g.1 in
+    let after_is : at + byte_len w ≡ x.1 = ap (λ (p : ℕ × ℕ). p.1) g.1 in
+    let front : to_be_bytes w x.0 ≡ take (byte_len w) (drop at bytes) = rw (← n_is) (wide.back (take (byte_len w) (drop at bytes)) (omega (arith, length-take (byte_len w) (drop at bytes), length-drop at bytes)) front_fits) in
     let split : drop at bytes ≡ take (byte_len w) (drop at bytes) ++ drop (at + byte_len w) bytes = sym (take-append-drop (byte_len w) (drop at bytes)) ∙ ap (λ (t : List ℕ). take (byte_len w) (drop at bytes) ++ t) (drop-drop (byte_len w) at bytes) in
-    (record { parts = rw (front, ← after-is) split; place = omega (arith, after-is, wide.len x.0) }, rw (← n-is) (wide.below (take (byte_len w) (drop at bytes)) front_fits))
+    (record { parts = rw (front, ← after_is) split; place = omega (arith, after_is, wide.len x.0) }, rw (← n_is) (wide.below (take (byte_len w) (drop at bytes)) front_fits))
 
 number_again : (w : Width) (limit : ℕ) (wide : IsWide w limit) (n : ℕ) → n < limit → (bytes : List ℕ) (at : ℕ) (rest : List ℕ)
     → drop at bytes ≡ to_be_bytes w n ++ rest → number_at w bytes at ≡ Some (n, at + length (to_be_bytes w n))
@@ -165,12 +165,12 @@ unfolding byte_at
 byte_took bytes at x fits e =
     let g = guard_some (ltb (length bytes - at) 1) (get_or bytes at 0, at + 1) x e in
     let long : 1 ≤ length bytes - at = ltb-false _ _ g.0 in
-    let n-is : get_or bytes at 0 ≡ x.0 = ap (λ (p : ℕ × ℕ). p.0) g.1 in
-    let after-is : at + 1 ≡ x.1 = ap (λ (p : ℕ × ℕ). p.1) g.1 in
+    let n_is : get_or bytes at 0 ≡ x.0 = ap (λ (p : ℕ × ℕ). p.0) g.1 in
+    let after_is : at + 1 ≡ x.1 = ap (λ (p : ℕ × ℕ). p.1) g.1 in
     let whole : drop at bytes ≡ get_or (drop at bytes) 0 0 ∷ drop 1 (drop at bytes) = one_byte (drop at bytes) (omega (arith, length-drop at bytes)) in
     let first : get_or (drop at bytes) 0 0 ≡ get_or bytes at 0 = get_or-drop at bytes 0 0 ∙ ap (λ (k : ℕ). get_or bytes k 0) (omega arith) in
     let split : drop at bytes ≡ get_or bytes at 0 ∷ drop (at + 1) bytes = whole ∙ ap (λ (b : ℕ). b ∷ drop 1 (drop at bytes)) first ∙ ap (λ (t : List ℕ). get_or bytes at 0 ∷ t) (drop-drop 1 at bytes) in
-    (record { parts = rw (← n-is, ← after-is) split; place = omega (arith, after-is) }, rw (← n-is) (fits at))
+    (record { parts = rw (← n_is, ← after_is) split; place = omega (arith, after_is) }, rw (← n_is) (fits at))
 
 byte_again : (n : ℕ) → n < 2 ^ 8 → (bytes : List ℕ) (at : ℕ) (rest : List ℕ) → drop at bytes ≡ (n ∷ []) ++ rest → byte_at bytes at ≡ Some (n, at + 1)
 unfolding byte_at
@@ -312,7 +312,7 @@ announced_takes {E} short r front Valid p = record {
         parts = sym (take-append-drop b.0.0 (drop b.0.1 bytes)) ∙ ap (λ (u : List ℕ). take b.0.0 (drop b.0.1 bytes) ++ u) (drop-drop b.0.0 b.0.1 bytes);
         place = omega (arith, len);
       } in
-      let both = Took-then bytes at b.0.1 (b.0.1 + b.0.0) (front b.0.0) (take b.0.0 (drop b.0.1 bytes)) t.0 second in
+      let both = Took_then bytes at b.0.1 (b.0.1 + b.0.0) (front b.0.0) (take b.0.0 (drop b.0.1 bytes)) t.0 second in
       let whole : Took bytes at (front (length (take b.0.0 (drop b.0.1 bytes))) ++ take b.0.0 (drop b.0.1 bytes)) (b.0.1 + b.0.0) = subst (λ (k : ℕ). Took bytes at (front k ++ take b.0.0 (drop b.0.1 bytes)) (b.0.1 + b.0.0)) (sym len) both in
       subst (λ (y : List ℕ × ℕ). Took bytes at (front (length y.0) ++ y.0) y.1 × Valid (length y.0)) g.1 (whole, subst Valid (sym len) t.1);
 }
@@ -339,7 +339,7 @@ two_takes {A} {B} {D} {E} r s make spell_a Valid_a spell_b Valid_b spell_d Valid
       let ta = p.took bytes at a.0 fits a.1 in
       let tb = q.took bytes a.0.1 b.0 fits b.1 in
       let m = made a.0.0 b.0.0 ta.1 tb.1 in
-      let text : Took bytes at (spell_d (make a.0.0 b.0.0)) b.0.1 = rw m.0 (Took-then bytes at a.0.1 b.0.1 (spell_a a.0.0) (spell_b b.0.0) ta.0 tb.0) in
+      let text : Took bytes at (spell_d (make a.0.0 b.0.0)) b.0.1 = rw m.0 (Took_then bytes at a.0.1 b.0.1 (spell_a a.0.0) (spell_b b.0.0) ta.0 tb.0) in
       subst (λ (y : D × ℕ). Took bytes at (spell_d y.0) y.1 × Valid_d y.0) (ok_is E (make a.0.0 b.0.0, b.0.1) x b.2) (text, m.1);
 }
 
@@ -355,8 +355,8 @@ three_takes {A} {B} {C} {D} {E} r s t make spell_a Valid_a spell_b Valid_b spell
       let tb = q.took bytes a.0.1 b.0 fits b.1 in
       let tc = o.took bytes b.0.1 c.0 fits c.1 in
       let m = made a.0.0 b.0.0 c.0.0 ta.1 tb.1 tc.1 in
-      let front = Took-then bytes at a.0.1 b.0.1 (spell_a a.0.0) (spell_b b.0.0) ta.0 tb.0 in
-      let text : Took bytes at (spell_d (make a.0.0 b.0.0 c.0.0)) c.0.1 = rw m.0 (Took-then bytes at b.0.1 c.0.1 (spell_a a.0.0 ++ spell_b b.0.0) (spell_c c.0.0) front tc.0) in
+      let front = Took_then bytes at a.0.1 b.0.1 (spell_a a.0.0) (spell_b b.0.0) ta.0 tb.0 in
+      let text : Took bytes at (spell_d (make a.0.0 b.0.0 c.0.0)) c.0.1 = rw m.0 (Took_then bytes at b.0.1 c.0.1 (spell_a a.0.0 ++ spell_b b.0.0) (spell_c c.0.0) front tc.0) in
       subst (λ (y : D × ℕ). Took bytes at (spell_d y.0) y.1 × Valid_d y.0) (ok_is E (make a.0.0 b.0.0 c.0.0, c.0.1) x c.2) (text, m.1);
 }
 

@@ -11,7 +11,7 @@ use Rattle.record_codec.specs.Fields.{two, four, eight, sized}
 use Rattle.record_codec.specs.Records.{IsValidRecord, record_spelling}
 use Rattle.record_codec.specs.Reading.{Reader, byte_at, two_at, four_at, eight_at, field, three_of}
 use Rattle.record_codec.specs.Decoding.{Gives, client_at, count_at, len_at, body_at, record_at}
-use Rattle.record_codec.proofs.Reading.{IsBytes, bind_ok, ok_is, Took, Took-then, chosen, apart, Takes, Reads, single, twos, fours, eights, bytes_are_numbers, field_takes, field_reads, then_reads, give_reads, announced_takes, announced_reads, three_takes, three_reads}
+use Rattle.record_codec.proofs.Reading.{IsBytes, bind_ok, ok_is, Took, Took_then, chosen, apart, Takes, Reads, single, twos, fours, eights, bytes_are_numbers, field_takes, field_reads, then_reads, give_reads, announced_takes, announced_reads, three_takes, three_reads}
 
 client_takes : Takes four (λ n. (0 ≤ n) × (n ≤ 5)) client_at
 unfolding client_at
@@ -76,7 +76,7 @@ record_takes = record {
             let one_is : t.0.0 ≡ 1 = omega (arith, eqb-false _ _ h.0) in
             let text : Took bytes at (1 ∷ []) t.0.1 = subst (λ (k : ℕ). Took bytes at (k ∷ []) t.0.1) one_is tag.0 in
             let d = data_takes.took bytes t.0.1 x fits h.1 in
-            (rw d.1.1 (Took-then bytes at t.0.1 x.1 (1 ∷ []) (record_fields x.0) text d.0), d.1.0)
+            (rw d.1.1 (Took_then bytes at t.0.1 x.1 (1 ∷ []) (record_fields x.0) text d.0), d.1.0)
       ];
 }
 

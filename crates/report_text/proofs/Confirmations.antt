@@ -9,7 +9,7 @@ use Rattle.runs.specs.Names.marks
 use Rattle.runs.specs.Marks.{confirmation_in, confirmations}
 use Rattle.report_text.specs.Positions.{records_at, end_confirmed, same_record, differ, log_line, line_of_position, log_lines, count_differing}
 use Rattle.report_text.specs.inside.Confirming.{Confirmed, with_known, with_confirmed, with_mark, with_marks, confirmed_lines, differing}
-use Rattle.report_text.proofs.Keyed.{find, RisesFrom, RisesFrom-insert, find-insert, same_number, entry_for, entries_of_range, flat_map_for, count_by_for, flat_map_same, count_by_same, flipped}
+use Rattle.report_text.proofs.Keyed.{find, RisesFrom, RisesFrom_insert, find_insert, same_number, entry_for, entries_of_range, flat_map_for, count_by_for, flat_map_same, count_by_same, flipped}
 
 -- what is known after one more record, and after more of them
 abbrev known_next : Option (Record × Bool) → Record → Record × Bool
@@ -25,24 +25,24 @@ abbrev known_of : List Record → Option (Record × Bool)
 known_of [] = None
 known_of (rec ∷ later) = Some (rec, list_any (λ other. not (same_record rec other)) later)
 
-or-assoc : (a b c : Bool) → ((a || b) || c) ≡ (a || (b || c))
-or-assoc true b c = refl
-or-assoc false b c = refl
+or_assoc : (a b c : Bool) → ((a || b) || c) ≡ (a || (b || c))
+or_assoc true b c = refl
+or_assoc false b c = refl
 
-or-false : (a : Bool) → (a || false) ≡ a
-or-false true = refl
-or-false false = refl
+or_false : (a : Bool) → (a || false) ≡ a
+or_false true = refl
+or_false false = refl
 
-known_after-some : (rec : Record) (b : Bool) (later : List Record)
+known_after_some : (rec : Record) (b : Bool) (later : List Record)
     → known_after (Some (rec, b)) later ≡ Some (rec, b || list_any (λ other. not (same_record rec other)) later)
-known_after-some rec b [] = ap (λ t. Some (rec, t)) (sym (or-false b))
-known_after-some rec b (other ∷ later) =
-    known_after-some rec (b || not (same_record rec other)) later
-    ∙ ap (λ t. Some (rec, t)) (or-assoc b (not (same_record rec other)) (list_any (λ other. not (same_record rec other)) later))
+known_after_some rec b [] = ap (λ t. Some (rec, t)) (sym (or_false b))
+known_after_some rec b (other ∷ later) =
+    known_after_some rec (b || not (same_record rec other)) later
+    ∙ ap (λ t. Some (rec, t)) (or_assoc b (not (same_record rec other)) (list_any (λ other. not (same_record rec other)) later))
 
-known_after-none : (recs : List Record) → known_after None recs ≡ known_of recs
-known_after-none [] = refl
-known_after-none (rec ∷ later) = known_after-some rec false later
+known_after_none : (recs : List Record) → known_after None recs ≡ known_of recs
+known_after_none [] = refl
+known_after_none (rec ∷ later) = known_after_some rec false later
 
 -- ---- one mark more
 
@@ -60,12 +60,12 @@ changed known rec h =
       | false ↦ λ e. ap not e
     ] h
 
-find-confirmed : (c : Confirmed) (position : ℕ) (rec : Record) (q : ℕ)
+find_confirmed : (c : Confirmed) (position : ℕ) (rec : Record) (q : ℕ)
     → find q (with_confirmed c position rec) ≡ cond (position == q) (Some (known_next (find q c) rec)) (find q c)
-find-confirmed c position rec q =
+find_confirmed c position rec q =
     elim (find position c) as (λ o. find position c ≡ o → find q (with_known o c position rec) ≡ cond (position == q) (Some (known_next (find q c) rec)) (find q c)) [
       | None ↦ λ none.
-          find-insert c position (rec, false) q ∙ rw (flipped q position) (elim (position == q) as (λ b. (position == q) ≡ b → cond b (Some (rec, false)) (find q c) ≡ cond b (Some (known_next (find q c) rec)) (find q c)) [
+          find_insert c position (rec, false) q ∙ rw (flipped q position) (elim (position == q) as (λ b. (position == q) ≡ b → cond b (Some (rec, false)) (find q c) ≡ cond b (Some (known_next (find q c) rec)) (find q c)) [
             | true ↦ λ is. rw (sym (same_number position q is), none) refl
             | false ↦ λ _. refl
           ] refl)
@@ -77,7 +77,7 @@ find-confirmed c position rec q =
                   | false ↦ λ _. refl
                 ] refl
             | false ↦ λ other.
-                find-insert c position (known.0, true) q ∙ rw (flipped q position) (elim (position == q) as (λ b. (position == q) ≡ b → cond b (Some (known.0, true)) (find q c) ≡ cond b (Some (known_next (find q c) rec)) (find q c)) [
+                find_insert c position (known.0, true) q ∙ rw (flipped q position) (elim (position == q) as (λ b. (position == q) ≡ b → cond b (Some (known.0, true)) (find q c) ≡ cond b (Some (known_next (find q c) rec)) (find q c)) [
                   | true ↦ λ is. rw (sym (same_number position q is), some) (ap (λ t. Some (known.0, t)) (sym (changed known rec other)))
                   | false ↦ λ _. refl
                 ] refl)
@@ -88,91 +88,91 @@ find-confirmed c position rec q =
 abbrev records_by : ℕ → Mark → List Record
 records_by q mark = records_at (cons_option (confirmation_in mark) []) q
 
-records-cons : (mark : Mark) (later : List Mark) (q : ℕ) (known : Option (Record × Bool))
+records_cons : (mark : Mark) (later : List Mark) (q : ℕ) (known : Option (Record × Bool))
     → known_after known (records_at (confirmations (mark ∷ later)) q) ≡ known_after (known_after known (records_by q mark)) (records_at (confirmations later) q)
-records-cons (marks.Confirm position rec) later q known =
+records_cons (marks.Confirm position rec) later q known =
     elim (position == q) as (λ b. known_after known (cons_option (cond b (Some rec) None) (records_at (confirmations later) q)) ≡ known_after (known_after known (cons_option (cond b (Some rec) None) [])) (records_at (confirmations later) q)) [
       | true ↦ refl
       | false ↦ refl
     ]
-records-cons mark later q known = refl
+records_cons mark later q known = refl
 
-find-mark : (c : Confirmed) (mark : Mark) (q : ℕ) → find q (with_mark c mark) ≡ known_after (find q c) (records_by q mark)
-find-mark c (marks.Confirm position rec) q =
-    find-confirmed c position rec q ∙ elim (position == q) as (λ b. cond b (Some (known_next (find q c) rec)) (find q c) ≡ known_after (find q c) (cons_option (cond b (Some rec) None) [])) [
+find_mark : (c : Confirmed) (mark : Mark) (q : ℕ) → find q (with_mark c mark) ≡ known_after (find q c) (records_by q mark)
+find_mark c (marks.Confirm position rec) q =
+    find_confirmed c position rec q ∙ elim (position == q) as (λ b. cond b (Some (known_next (find q c) rec)) (find q c) ≡ known_after (find q c) (cons_option (cond b (Some rec) None) [])) [
       | true ↦ refl
       | false ↦ refl
     ]
-find-mark c mark q = refl
+find_mark c mark q = refl
 
-find-marks : (c : Confirmed) (shown : List Mark) (q : ℕ) → find q (with_marks c shown) ≡ known_after (find q c) (records_at (confirmations shown) q)
-find-marks c [] q = refl
-find-marks c (mark ∷ later) q =
-    find-marks (with_mark c mark) later q ∙ ap (λ known. known_after known (records_at (confirmations later) q)) (find-mark c mark q) ∙ sym (records-cons mark later q (find q c))
+find_marks : (c : Confirmed) (shown : List Mark) (q : ℕ) → find q (with_marks c shown) ≡ known_after (find q c) (records_at (confirmations shown) q)
+find_marks c [] q = refl
+find_marks c (mark ∷ later) q =
+    find_marks (with_mark c mark) later q ∙ ap (λ known. known_after known (records_at (confirmations later) q)) (find_mark c mark q) ∙ sym (records_cons mark later q (find q c))
 
-find-confirmations : (shown : List Mark) (q : ℕ) → find q (with_marks [] shown) ≡ known_of (records_at (confirmations shown) q)
-find-confirmations shown q = find-marks [] shown q ∙ known_after-none (records_at (confirmations shown) q)
+find_confirmations : (shown : List Mark) (q : ℕ) → find q (with_marks [] shown) ≡ known_of (records_at (confirmations shown) q)
+find_confirmations shown q = find_marks [] shown q ∙ known_after_none (records_at (confirmations shown) q)
 
 -- ---- positions rise, and lie below the end
 
-RisesFrom-mark : (c : Confirmed) (mark : Mark) → RisesFrom 0 c → RisesFrom 0 (with_mark c mark)
-RisesFrom-mark c (marks.Confirm position rec) r =
+RisesFrom_mark : (c : Confirmed) (mark : Mark) → RisesFrom 0 c → RisesFrom 0 (with_mark c mark)
+RisesFrom_mark c (marks.Confirm position rec) r =
     elim (find position c) as (λ o. RisesFrom 0 (with_known o c position rec)) [
-      | None ↦ RisesFrom-insert 0 c position (rec, false) (omega arith) r
+      | None ↦ RisesFrom_insert 0 c position (rec, false) (omega arith) r
       | Some known ↦ elim (known.1 || same_record known.0 rec) as (λ t. RisesFrom 0 (cond t c (insert_entry nat_cmp c position (known.0, true)))) [
         | true ↦ r
-        | false ↦ RisesFrom-insert 0 c position (known.0, true) (omega arith) r
+        | false ↦ RisesFrom_insert 0 c position (known.0, true) (omega arith) r
       ]
     ]
-RisesFrom-mark c mark r = r
+RisesFrom_mark c mark r = r
 
-RisesFrom-marks : (c : Confirmed) (shown : List Mark) → RisesFrom 0 c → RisesFrom 0 (with_marks c shown)
-RisesFrom-marks c [] r = r
-RisesFrom-marks c (mark ∷ later) r = RisesFrom-marks (with_mark c mark) later (RisesFrom-mark c mark r)
+RisesFrom_marks : (c : Confirmed) (shown : List Mark) → RisesFrom 0 c → RisesFrom 0 (with_marks c shown)
+RisesFrom_marks c [] r = r
+RisesFrom_marks c (mark ∷ later) r = RisesFrom_marks (with_mark c mark) later (RisesFrom_mark c mark r)
 
-end-rises : (a : ℕ) (confirmed : List (ℕ × Record)) → a ≤ fold (λ end c. max end (c.0 + 1)) a confirmed
-end-rises a [] = omega arith
-end-rises a (c ∷ confirmed) = let later = end-rises (max a (c.0 + 1)) confirmed in omega arith
+end_rises : (a : ℕ) (confirmed : List (ℕ × Record)) → a ≤ fold (λ end c. max end (c.0 + 1)) a confirmed
+end_rises a [] = omega arith
+end_rises a (c ∷ confirmed) = let later = end_rises (max a (c.0 + 1)) confirmed in omega arith
 
-confirmed-below : (a : ℕ) (confirmed : List (ℕ × Record)) (q : ℕ) → IsSome (known_of (records_at confirmed q))
+confirmed_below : (a : ℕ) (confirmed : List (ℕ × Record)) (q : ℕ) → IsSome (known_of (records_at confirmed q))
     → q < fold (λ end c. max end (c.0 + 1)) a confirmed
-confirmed-below a [] q h = cc
-confirmed-below a (c ∷ confirmed) q h =
+confirmed_below a [] q h = cc
+confirmed_below a (c ∷ confirmed) q h =
     elim (c.0 == q) as (λ b. (c.0 == q) ≡ b → IsSome (known_of (cons_option (cond b (Some c.1) None) (records_at confirmed q))) → q < fold (λ end c. max end (c.0 + 1)) (max a (c.0 + 1)) confirmed) [
       | true ↦ λ is _.
           let same : c.0 ≡ q = same_number c.0 q is in
-          let rises = end-rises (max a (c.0 + 1)) confirmed in
+          let rises = end_rises (max a (c.0 + 1)) confirmed in
           omega arith
-      | false ↦ λ _ later. confirmed-below (max a (c.0 + 1)) confirmed q later
+      | false ↦ λ _ later. confirmed_below (max a (c.0 + 1)) confirmed q later
     ] refl h
 
 -- ---- as text
 
-first-known : (position : ℕ) (recs : List Record)
+first_known : (position : ℕ) (recs : List Record)
     → option_map_or (log_line position) (slice_get recs 0) [] ≡ option_map_or (λ known. log_line position known.0) (known_of recs) []
-first-known position [] = refl
-first-known position (rec ∷ later) = refl
+first_known position [] = refl
+first_known position (rec ∷ later) = refl
 
-differ-known : (recs : List Record) → differ recs ≡ option_map_or (λ (known : Record × Bool). known.1) (known_of recs) false
-differ-known [] = refl
-differ-known (rec ∷ later) = refl
+differ_known : (recs : List Record) → differ recs ≡ option_map_or (λ (known : Record × Bool). known.1) (known_of recs) false
+differ_known [] = refl
+differ_known (rec ∷ later) = refl
 
 abbrev known_at : List Mark → ℕ → Option (Record × Bool)
 known_at shown q = known_of (records_at (confirmations shown) q)
 
 entries : (shown : List Mark) → filter_map (entry_for (known_at shown)) (range_with_len 0 (end_confirmed (confirmations shown))) ≡ with_marks [] shown
 entries shown =
-    entries_of_range (end_confirmed (confirmations shown)) 0 (with_marks [] shown) (known_at shown) (RisesFrom-marks [] shown tt) (λ q _. sym (find-confirmations shown q))
-    (λ q _ s. let few : q < end_confirmed (confirmations shown) = confirmed-below 0 (confirmations shown) q s in omega arith)
+    entries_of_range (end_confirmed (confirmations shown)) 0 (with_marks [] shown) (known_at shown) (RisesFrom_marks [] shown tt) (λ q _. sym (find_confirmations shown q))
+    (λ q _ s. let few : q < end_confirmed (confirmations shown) = confirmed_below 0 (confirmations shown) q s in omega arith)
 
-pub confirmed_lines-is : (shown : List Mark) → confirmed_lines (with_marks [] shown) ≡ log_lines (confirmations shown)
-confirmed_lines-is shown =
+pub confirmed_lines_is : (shown : List Mark) → confirmed_lines (with_marks [] shown) ≡ log_lines (confirmations shown)
+confirmed_lines_is shown =
     ap confirmed_lines (sym (entries shown))
     ∙ sym (flat_map_for (λ position known. log_line position known.0) (known_at shown) (range_with_len 0 (end_confirmed (confirmations shown))))
-    ∙ sym (flat_map_same (line_of_position (confirmations shown)) (λ position. option_map_or (λ known. log_line position known.0) (known_at shown position) []) (λ position. first-known position (records_at (confirmations shown) position)) (range_with_len 0 (end_confirmed (confirmations shown))))
+    ∙ sym (flat_map_same (line_of_position (confirmations shown)) (λ position. option_map_or (λ known. log_line position known.0) (known_at shown position) []) (λ position. first_known position (records_at (confirmations shown) position)) (range_with_len 0 (end_confirmed (confirmations shown))))
 
-pub differing-is : (shown : List Mark) → differing (with_marks [] shown) ≡ count_differing (confirmations shown)
-differing-is shown =
+pub differing_is : (shown : List Mark) → differing (with_marks [] shown) ≡ count_differing (confirmations shown)
+differing_is shown =
     ap differing (sym (entries shown))
     ∙ sym (count_by_for (λ known. known.1) (known_at shown) (range_with_len 0 (end_confirmed (confirmations shown))))
-    ∙ sym (count_by_same (λ position. differ (records_at (confirmations shown) position)) (λ position. option_map_or (λ known. known.1) (known_at shown position) false) (λ position. differ-known (records_at (confirmations shown) position)) (range_with_len 0 (end_confirmed (confirmations shown))))
+    ∙ sym (count_by_same (λ position. differ (records_at (confirmations shown) position)) (λ position. option_map_or (λ known. known.1) (known_at shown position) false) (λ position. differ_known (records_at (confirmations shown) position)) (range_with_len 0 (end_confirmed (confirmations shown))))

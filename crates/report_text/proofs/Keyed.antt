@@ -33,13 +33,13 @@ pub flipped : (a b : ℕ) → (a == b) ≡ (b == a)
 flipped a b = grind (arith, nat_tests)
 
 -- the first of several options
-pub or-none : {A : Type 0} (o : Option A) → option_or o None ≡ o
-or-none None = refl
-or-none (Some x) = refl
+pub or_none : {A : Type 0} (o : Option A) → option_or o None ≡ o
+or_none None = refl
+or_none (Some x) = refl
 
-pub or-assoc : {A : Type 0} (a b c : Option A) → option_or (option_or a b) c ≡ option_or a (option_or b c)
-or-assoc None b c = refl
-or-assoc (Some x) b c = refl
+pub or_assoc : {A : Type 0} (a b c : Option A) → option_or (option_or a b) c ≡ option_or a (option_or b c)
+or_assoc None b c = refl
+or_assoc (Some x) b c = refl
 
 -- two functions that agree
 pub flat_map_same : {X A : Type 0} (f g : X → List A) → ((x : X) → f x ≡ g x) → (xs : List X) → flat_map f xs ≡ flat_map g xs
@@ -63,32 +63,32 @@ module _ {V : Type 0} where
   RisesFrom n [] = Unit {0}
   RisesFrom n (e ∷ es) = (n ≤ e.0) × RisesFrom (e.0 + 1) es
 
-  RisesFrom-lower : (m n : ℕ) (es : List (ℕ × V)) → m ≤ n → RisesFrom n es → RisesFrom m es
-  RisesFrom-lower m n [] h r = tt
-  RisesFrom-lower m n (e ∷ es) h r = (omega (arith, r.0), r.1)
+  RisesFrom_lower : (m n : ℕ) (es : List (ℕ × V)) → m ≤ n → RisesFrom n es → RisesFrom m es
+  RisesFrom_lower m n [] h r = tt
+  RisesFrom_lower m n (e ∷ es) h r = (omega (arith, r.0), r.1)
 
-  pub RisesFrom-insert : (n : ℕ) (es : List (ℕ × V)) (k : ℕ) (v : V) → n ≤ k → RisesFrom n es → RisesFrom n (insert_entry nat_cmp es k v)
-  RisesFrom-insert n [] k v h r = (h, tt)
-  RisesFrom-insert n (e ∷ es) k v h r =
+  pub RisesFrom_insert : (n : ℕ) (es : List (ℕ × V)) (k : ℕ) (v : V) → n ≤ k → RisesFrom n es → RisesFrom n (insert_entry nat_cmp es k v)
+  RisesFrom_insert n [] k v h r = (h, tt)
+  RisesFrom_insert n (e ∷ es) k v h r =
       elim (nat_cmp k e.0) as (λ o. o ≡ nat_cmp k e.0 → RisesFrom n (match_ordering o ((k, v) ∷ e ∷ es) ((e.0, v) ∷ es) (e ∷ insert_entry nat_cmp es k v))) [
         | Less ↦ λ is. (h, (omega (arith, ranked k e.0 Less is), r.1))
         | Equal ↦ λ _. (r.0, r.1)
-        | Greater ↦ λ is. (r.0, RisesFrom-insert (e.0 + 1) es k v (omega (arith, ranked k e.0 Greater is)) r.1)
+        | Greater ↦ λ is. (r.0, RisesFrom_insert (e.0 + 1) es k v (omega (arith, ranked k e.0 Greater is)) r.1)
       ] refl
 
   -- what holds of each entry
-  pub all-insert : (P : ℕ × V → Type 0) (es : List (ℕ × V)) (k : ℕ) (v : V) → P (k, v) → AllByRecursion P es → AllByRecursion P (insert_entry nat_cmp es k v)
-  all-insert P [] k v here all = (here, tt)
-  all-insert P (e ∷ es) k v here all =
+  pub all_insert : (P : ℕ × V → Type 0) (es : List (ℕ × V)) (k : ℕ) (v : V) → P (k, v) → AllByRecursion P es → AllByRecursion P (insert_entry nat_cmp es k v)
+  all_insert P [] k v here all = (here, tt)
+  all_insert P (e ∷ es) k v here all =
       elim (nat_cmp k e.0) as (λ o. o ≡ nat_cmp k e.0 → AllByRecursion P (match_ordering o ((k, v) ∷ e ∷ es) ((e.0, v) ∷ es) (e ∷ insert_entry nat_cmp es k v))) [
         | Less ↦ λ _. (here, all)
         | Equal ↦ λ is. (subst (λ (q : ℕ). P (q, v)) (ranked k e.0 Equal is) here, all.1)
-        | Greater ↦ λ _. (all.0, all-insert P es k v here all.1)
+        | Greater ↦ λ _. (all.0, all_insert P es k v here all.1)
       ] refl
 
-  pub find-insert : (es : List (ℕ × V)) (k : ℕ) (v : V) (q : ℕ) → find q (insert_entry nat_cmp es k v) ≡ cond (q == k) (Some v) (find q es)
-  find-insert [] k v q = ap (λ b. cond b (Some v) None) (at_is q k)
-  find-insert (e ∷ es) k v q =
+  pub find_insert : (es : List (ℕ × V)) (k : ℕ) (v : V) (q : ℕ) → find q (insert_entry nat_cmp es k v) ≡ cond (q == k) (Some v) (find q es)
+  find_insert [] k v q = ap (λ b. cond b (Some v) None) (at_is q k)
+  find_insert (e ∷ es) k v q =
       elim (nat_cmp k e.0) as (λ o. o ≡ nat_cmp k e.0 → find q (match_ordering o ((k, v) ∷ e ∷ es) ((e.0, v) ∷ es) (e ∷ insert_entry nat_cmp es k v)) ≡ cond (q == k) (Some v) (find q (e ∷ es))) [
         | Less ↦ λ _. ap (λ b. cond b (Some v) (find q (e ∷ es))) (at_is q k)
         | Equal ↦ λ is.
@@ -96,16 +96,16 @@ module _ {V : Type 0} where
             rw (at_is q e.0, same) (elim (q == e.0) as (λ b. cond b (Some v) (find q es) ≡ cond b (Some v) (cond b (Some e.1) (find q es))) [ true ↦ refl | false ↦ refl ])
         | Greater ↦ λ is.
             let above : e.0 < k = ranked k e.0 Greater is in
-            rw (at_is q e.0, find-insert es k v q) (elim (q == e.0) as (λ b. (q == e.0) ≡ b → cond b (Some e.1) (cond (q == k) (Some v) (find q es)) ≡ cond (q == k) (Some v) (cond b (Some e.1) (find q es))) [
+            rw (at_is q e.0, find_insert es k v q) (elim (q == e.0) as (λ b. (q == e.0) ≡ b → cond b (Some e.1) (cond (q == k) (Some v) (find q es)) ≡ cond (q == k) (Some v) (cond b (Some e.1) (find q es))) [
               | true ↦ λ here. rw (not_same q k (let same : q ≡ e.0 = same_number q e.0 here in omega arith)) refl
               | false ↦ λ _. refl
             ] refl)
       ] refl
 
-  pub find-below : (n : ℕ) (es : List (ℕ × V)) (q : ℕ) → RisesFrom n es → q < n → find q es ≡ None
-  find-below n [] q r h = refl
-  find-below n (e ∷ es) q r h =
-      rw (at_is q e.0, not_same q e.0 (omega (arith, r.0))) (find-below (e.0 + 1) es q r.1 (omega (arith, r.0)))
+  pub find_below : (n : ℕ) (es : List (ℕ × V)) (q : ℕ) → RisesFrom n es → q < n → find q es ≡ None
+  find_below n [] q r h = refl
+  find_below n (e ∷ es) q r h =
+      rw (at_is q e.0, not_same q e.0 (omega (arith, r.0))) (find_below (e.0 + 1) es q r.1 (omega (arith, r.0)))
 
   -- the number with its value, where it has one
   abbrev pub entry_for : (ℕ → Option V) → ℕ → Option (ℕ × V)
@@ -134,7 +134,7 @@ module _ {V : Type 0} where
             rw (found, rest) (rw same refl)
         | false ↦ λ is.
             let above : n + 1 ≤ e.0 = grind (arith, nat_tests, r.0) in
-            let none : f n ≡ None = tells n (omega arith) ∙ find-below (n + 1) (e ∷ es) n (above, r.1) (omega arith) in
+            let none : f n ≡ None = tells n (omega arith) ∙ find_below (n + 1) (e ∷ es) n (above, r.1) (omega arith) in
             rw none (entries_of_range count (n + 1) (e ∷ es) f (above, r.1) (λ q h. tells q (omega arith)) (λ q h s. let w : q < n + suc count = within q (omega arith) s in omega arith))
       ] refl
 
@@ -165,19 +165,19 @@ module _ {X V : Type 0} (now : X → V) where
   abbrev pub seen : List (ℕ × X) → List (ℕ × V)
   seen es = map (λ e. (e.0, now e.1)) es
 
-  pub find-seen : (es : List (ℕ × X)) (q : ℕ) → find q (seen es) ≡ option_map now (find q es)
-  find-seen [] q = refl
-  find-seen (e ∷ es) q =
+  pub find_seen : (es : List (ℕ × X)) (q : ℕ) → find q (seen es) ≡ option_map now (find q es)
+  find_seen [] q = refl
+  find_seen (e ∷ es) q =
       elim (is_at (nat_cmp q) e.0) as (λ b. cond b (Some (now e.1)) (find q (seen es)) ≡ option_map now (cond b (Some e.1) (find q es))) [
         | true ↦ refl
-        | false ↦ find-seen es q
+        | false ↦ find_seen es q
       ]
 
-  pub insert-seen : (es : List (ℕ × X)) (k : ℕ) (x : X) → seen (insert_entry nat_cmp es k x) ≡ insert_entry nat_cmp (seen es) k (now x)
-  insert-seen [] k x = refl
-  insert-seen (e ∷ es) k x =
+  pub insert_seen : (es : List (ℕ × X)) (k : ℕ) (x : X) → seen (insert_entry nat_cmp es k x) ≡ insert_entry nat_cmp (seen es) k (now x)
+  insert_seen [] k x = refl
+  insert_seen (e ∷ es) k x =
       elim (nat_cmp k e.0) as (λ o. seen (match_ordering o ((k, x) ∷ e ∷ es) ((e.0, x) ∷ es) (e ∷ insert_entry nat_cmp es k x)) ≡ match_ordering o ((k, now x) ∷ seen (e ∷ es)) ((e.0, now x) ∷ seen es) ((e.0, now e.1) ∷ insert_entry nat_cmp (seen es) k (now x))) [
         | Less ↦ refl
         | Equal ↦ refl
-        | Greater ↦ ap (λ rest. (e.0, now e.1) ∷ rest) (insert-seen es k x)
+        | Greater ↦ ap (λ rest. (e.0, now e.1) ∷ rest) (insert_seen es k x)
       ]

@@ -13,13 +13,13 @@ pub record IsSubmitted (node : NodeId) (past : Past) (s : Submitted) : Type 0 wh
   pub bodies : s.bodies ≡ submissions_of node past
   pub acked : s.acked ≡ acks (marks_of node past)
 
-pub IsSubmitted-none : (node : NodeId) → IsSubmitted node [] nothing_submitted
-IsSubmitted-none node = record { bodies = refl; acked = refl }
+pub IsSubmitted_none : (node : NodeId) → IsSubmitted node [] nothing_submitted
+IsSubmitted_none node = record { bodies = refl; acked = refl }
 
 -- its own entry, and one of another node
-pub IsSubmitted-own : (node : NodeId) (past : Past) (e : HistoryEntry) (s : Submitted) → same_node e.node node ≡ true → IsSubmitted node past s
+pub IsSubmitted_own : (node : NodeId) (past : Past) (e : HistoryEntry) (s : Submitted) → same_node e.node node ≡ true → IsSubmitted node past s
     → IsSubmitted node (e ∷ past) (with_own_entry s e)
-IsSubmitted-own node past e s own h =
+IsSubmitted_own node past e s own h =
     let at : marks_at node e ≡ e.marks = ap (λ b. cond b e.marks []) own in
     let body : body_at node e ≡ body_in e.event = ap (λ b. cond b (body_in e.event) []) own in
     record {
@@ -27,9 +27,9 @@ IsSubmitted-own node past e s own h =
       acked = rw at (ap (λ acked. acked ++ acks e.marks) h.acked ∙ sym (filter_map-append ack_in (marks_of node past) e.marks));
     }
 
-pub IsSubmitted-other : (node : NodeId) (past : Past) (e : HistoryEntry) (s : Submitted) → same_node e.node node ≡ false → IsSubmitted node past s
+pub IsSubmitted_other : (node : NodeId) (past : Past) (e : HistoryEntry) (s : Submitted) → same_node e.node node ≡ false → IsSubmitted node past s
     → IsSubmitted node (e ∷ past) s
-IsSubmitted-other node past e s other h =
+IsSubmitted_other node past e s other h =
     let at : marks_at node e ≡ [] = ap (λ b. cond b e.marks []) other in
     let body : body_at node e ≡ [] = ap (λ b. cond b (body_in e.event) []) other in
     record {
@@ -37,6 +37,6 @@ IsSubmitted-other node past e s other h =
       acked = rw (at, append-nil) h.acked;
     }
 
-pub submitted_lines-is : (past : Past) (number : ℕ) (s : Submitted) → IsSubmitted (nodes.Client number) past s
+pub submitted_lines_is : (past : Past) (number : ℕ) (s : Submitted) → IsSubmitted (nodes.Client number) past s
     → submitted_lines number s ≡ lines_of_client past number
-submitted_lines-is past number s h = rw (h.bodies, h.acked) refl
+submitted_lines_is past number s h = rw (h.bodies, h.acked) refl

@@ -13,10 +13,10 @@ use Rattle.report_text.specs.inside.Submitting.{Submitted}
 use Rattle.report_text.specs.inside.Gathering.{Gathered, gathered_of, numbered_lines}
 use Rattle.report_text.specs.Summary.{is_data, count_submitted, count_acked, over_clients, totals_lines, quiet_line, summary_of_consumer, summary_of}
 use Rattle.report_text.specs.inside.Summing.{confirms_data, data_among, all_submitted, all_acked, summed_consumer, summed_lines}
-use Rattle.report_text.proofs.Confirmations.{differing-is}
+use Rattle.report_text.proofs.Confirmations.{differing_is}
 use Rattle.report_text.proofs.Consumptions.{IsConsumed}
 use Rattle.report_text.proofs.Submissions.{IsSubmitted}
-use Rattle.report_text.proofs.Gatherings.{Numbered, Numbered-weaker, numbered_lines-is, IsGathered, IsGathered-all, confirmed-all}
+use Rattle.report_text.proofs.Gatherings.{Numbered, Numbered_weaker, numbered_lines_is, IsGathered, IsGathered_all, confirmed_all}
 
 -- ---- records of clients
 
@@ -32,18 +32,18 @@ confirmed shown = map (λ c. c.1) (confirmations shown)
 passed : (a : ℕ) (later : List Mark) → tally_marks a later ≡ tally_records a (confirmed later) → tally_marks (a + 0) later ≡ tally_records a (confirmed later)
 passed a later h = let none : a + 0 ≡ a = omega arith in ap (λ n. tally_marks n later) none ∙ h
 
-same-tally : (a : ℕ) (shown : List Mark) → tally_marks a shown ≡ tally_records a (confirmed shown)
-same-tally a [] = refl
-same-tally a (marks.Confirm position rec ∷ later) = same-tally (a + cond (is_data rec) 1 0) later
-same-tally a (marks.Apply position rec ∷ later) = passed a later (same-tally a later)
-same-tally a (marks.Undo first ∷ later) = passed a later (same-tally a later)
-same-tally a (marks.Out bytes ∷ later) = passed a later (same-tally a later)
-same-tally a (marks.Notice first ∷ later) = passed a later (same-tally a later)
-same-tally a (marks.Promise position rec ∷ later) = passed a later (same-tally a later)
-same-tally a (marks.Ack number position ∷ later) = passed a later (same-tally a later)
+same_tally : (a : ℕ) (shown : List Mark) → tally_marks a shown ≡ tally_records a (confirmed shown)
+same_tally a [] = refl
+same_tally a (marks.Confirm position rec ∷ later) = same_tally (a + cond (is_data rec) 1 0) later
+same_tally a (marks.Apply position rec ∷ later) = passed a later (same_tally a later)
+same_tally a (marks.Undo first ∷ later) = passed a later (same_tally a later)
+same_tally a (marks.Out bytes ∷ later) = passed a later (same_tally a later)
+same_tally a (marks.Notice first ∷ later) = passed a later (same_tally a later)
+same_tally a (marks.Promise position rec ∷ later) = passed a later (same_tally a later)
+same_tally a (marks.Ack number position ∷ later) = passed a later (same_tally a later)
 
-summed_consumer-is : (cfg : Config) (past : Past) (number : ℕ) (c : Consumed) → IsConsumed number past c → summed_consumer cfg number c ≡ summary_of_consumer cfg past number
-summed_consumer-is cfg past number c h = rw (h.said.marks, h.said.log, same-tally 0 (marks_of (nodes.Consumer number) past)) refl
+summed_consumer_is : (cfg : Config) (past : Past) (number : ℕ) (c : Consumed) → IsConsumed number past c → summed_consumer cfg number c ≡ summary_of_consumer cfg past number
+summed_consumer_is cfg past number c h = rw (h.said.marks, h.said.log, same_tally 0 (marks_of (nodes.Consumer number) past)) refl
 
 -- ---- sums over clients
 
@@ -56,21 +56,21 @@ sum_front f (x ∷ xs) a =
     h1 ∙ h3
 
 module _ (past : Past) where
-  submitted-is : (n : ℕ) (clients : List Submitted) → Numbered (λ number. IsSubmitted (nodes.Client number) past) n clients
+  submitted_is : (n : ℕ) (clients : List Submitted) → Numbered (λ number. IsSubmitted (nodes.Client number) past) n clients
       → all_submitted clients ≡ sum_by (count_submitted past) (range_with_len n (length clients))
-  submitted-is n [] h = refl
-  submitted-is n (s ∷ clients) h =
+  submitted_is n [] h = refl
+  submitted_is n (s ∷ clients) h =
       let here : length s.bodies ≡ count_submitted past n = ap length h.0.bodies in
-      let rest = submitted-is (n + 1) clients h.1 in
+      let rest = submitted_is (n + 1) clients h.1 in
       let sum = sum_front (count_submitted past) (range_with_len (n + 1) (length clients)) (0 + count_submitted past n) in
       omega (arith, here, rest, sum)
 
-  acked-is : (n : ℕ) (clients : List Submitted) → Numbered (λ number. IsSubmitted (nodes.Client number) past) n clients
+  acked_is : (n : ℕ) (clients : List Submitted) → Numbered (λ number. IsSubmitted (nodes.Client number) past) n clients
       → all_acked clients ≡ sum_by (count_acked past) (range_with_len n (length clients))
-  acked-is n [] h = refl
-  acked-is n (s ∷ clients) h =
+  acked_is n [] h = refl
+  acked_is n (s ∷ clients) h =
       let here : length s.acked ≡ count_acked past n = ap length h.0.acked in
-      let rest = acked-is (n + 1) clients h.1 in
+      let rest = acked_is (n + 1) clients h.1 in
       let sum = sum_front (count_acked past) (range_with_len (n + 1) (length clients)) (0 + count_acked past n) in
       omega (arith, here, rest, sum)
 
@@ -79,16 +79,16 @@ module _ (past : Past) where
 same_parts : {a b c a' b' c' : List ℕ} (d : List ℕ) → a ≡ a' → b ≡ b' → c ≡ c' → a ++ b ++ c ++ d ≡ a' ++ b' ++ c' ++ d
 same_parts d p q r = cc
 
-pub summed_lines-is : (cfg : Config) (quiet : Bool) (history : List HistoryEntry) → summed_lines cfg quiet (gathered_of cfg history) ≡ summary_of cfg history quiet
-summed_lines-is cfg quiet history =
+pub summed_lines_is : (cfg : Config) (quiet : Bool) (history : List HistoryEntry) → summed_lines cfg quiet (gathered_of cfg history) ≡ summary_of cfg history quiet
+summed_lines_is cfg quiet history =
     let past : Past = past_of history in
     let g : Gathered = gathered_of cfg history in
-    let h : IsGathered cfg past g = IsGathered-all cfg history in
-    let submitted : all_submitted g.clients ≡ over_clients cfg (count_submitted past) = submitted-is past 0 g.clients h.clients ∙ ap (λ count. sum_by (count_submitted past) (range_with_len 0 count)) h.client_count in
-    let acked : all_acked g.clients ≡ over_clients cfg (count_acked past) = acked-is past 0 g.clients h.clients ∙ ap (λ count. sum_by (count_acked past) (range_with_len 0 count)) h.client_count in
+    let h : IsGathered cfg past g = IsGathered_all cfg history in
+    let submitted : all_submitted g.clients ≡ over_clients cfg (count_submitted past) = submitted_is past 0 g.clients h.clients ∙ ap (λ count. sum_by (count_submitted past) (range_with_len 0 count)) h.client_count in
+    let acked : all_acked g.clients ≡ over_clients cfg (count_acked past) = acked_is past 0 g.clients h.clients ∙ ap (λ count. sum_by (count_acked past) (range_with_len 0 count)) h.client_count in
     let totals : totals_lines (all_submitted g.clients) (all_acked g.clients) ≡ totals_lines (over_clients cfg (count_submitted past)) (over_clients cfg (count_acked past)) = rw (submitted, acked) refl in
     let consumers : numbered_lines (summed_consumer cfg) 0 g.consumers ≡ flat_map (summary_of_consumer cfg past) (range_with_len 0 cfg.consumers) =
-    numbered_lines-is (summed_consumer cfg) (summary_of_consumer cfg past) 0 g.consumers (Numbered-weaker (λ number. IsConsumed number past) (λ number c. summed_consumer cfg number c ≡ summary_of_consumer cfg past number) 0 g.consumers (λ m c _ held. summed_consumer-is cfg past m c held) h.consumers)
+    numbered_lines_is (summed_consumer cfg) (summary_of_consumer cfg past) 0 g.consumers (Numbered_weaker (λ number. IsConsumed number past) (λ number c. summed_consumer cfg number c ≡ summary_of_consumer cfg past number) 0 g.consumers (λ m c _ held. summed_consumer_is cfg past m c held) h.consumers)
     ∙ ap (λ count. flat_map (summary_of_consumer cfg past) (range_with_len 0 count)) h.consumer_count in
-    let differ : differ_line (differing g.confirmed) ≡ differ_line (count_differing (confirmations (shown past))) = ap differ_line (ap differing (confirmed-all cfg history) ∙ differing-is (shown past)) in
+    let differ : differ_line (differing g.confirmed) ≡ differ_line (count_differing (confirmations (shown past))) = ap differ_line (ap differing (confirmed_all cfg history) ∙ differing_is (shown past)) in
     same_parts (quiet_line quiet) totals consumers differ

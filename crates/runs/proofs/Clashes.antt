@@ -1,7 +1,7 @@
 -- What can't be: equal lists, options and events of different kinds, and members of lists that have none.
 use Rattle.std.proofs.Common.{◌≡◌, ◌⊎◌, ℕ, zero, suc, ◌<◌, ◌∙◌, List, [], ◌∷◌, length, get_or, Some, None, Less, Equal, Greater, Contains, inl, inr, ap, sym, arith}
 use Rattle.std.specs.List.{AllByRecursion}
-use Rattle.majority.proofs.Lists.{Contains-cases}
+use Rattle.majority.proofs.Lists.{Contains_cases}
 use Rattle.runs.specs.Names.{Message, Mark}
 use Rattle.runs.specs.Names.marks
 use Rattle.runs.specs.Names.events
@@ -53,4 +53,4 @@ HasNoNotice = AllByRecursion (λ mark. notice_in mark ≡ None)
 pub no_notice : (shown : List Mark) (first : ℕ) → HasNoNotice shown → Contains shown (marks.Notice first) → ⊥
 no_notice [] first none c = no_member c
 no_notice (mark ∷ shown) first none c =
-    neither (Contains-cases mark (marks.Notice first) shown c) (λ same. none_some (sym none.0 ∙ ap notice_in same)) (no_notice shown first none.1)
+    neither (Contains_cases mark (marks.Notice first) shown c) (λ same. none_some (sym none.0 ∙ ap notice_in same)) (no_notice shown first none.1)

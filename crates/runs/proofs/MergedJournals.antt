@@ -11,23 +11,23 @@ use Rattle.runs.specs.Runs.{Comes, Follows}
 use Rattle.runs.specs.Journals.{IsFor, IsOwnStep, MergesAreRuns}
 
 -- a step is said by the node's own entries
-own-step : (cfg : Config) (node : NodeId) (past : Past) (event : Event) → step_at cfg node (own_of node past) event ≡ step_at cfg node past event
-own-step cfg (nodes.Seq number) past event =
+own_step : (cfg : Config) (node : NodeId) (past : Past) (event : Event) → step_at cfg node (own_of node past) event ≡ step_at cfg node past event
+own_step cfg (nodes.Seq number) past event =
     let table = sequencer_table cfg (nodes.Seq number) in
     ap (λ s. table.gives s event) (own_state table (nodes.Seq number) past)
-own-step cfg (nodes.Shard shard side) past event =
+own_step cfg (nodes.Shard shard side) past event =
     let table = replica_table cfg (nodes.Shard shard side) in
     ap (λ s. table.gives s event) (own_state table (nodes.Shard shard side) past)
-own-step cfg (nodes.Client number) past event =
+own_step cfg (nodes.Client number) past event =
     let table = client_table cfg (nodes.Client number) in
     ap (λ s. table.gives s event) (own_state table (nodes.Client number) past)
-own-step cfg (nodes.Consumer number) past event =
+own_step cfg (nodes.Consumer number) past event =
     let table = consumer_table cfg (nodes.Consumer number) in
     ap (λ s. table.gives s event) (own_state table (nodes.Consumer number) past)
 
-own-step-local : (cfg : Config) → IsLocal (IsOwnStep cfg)
-own-step-local cfg past e is =
-    let same = own-step cfg e.node past e.event in
+own_step_local : (cfg : Config) → IsLocal (IsOwnStep cfg)
+own_step_local cfg past e is =
+    let same = own_step cfg e.node past e.event in
     record {
       within = is.within;
       valid = is.valid;
@@ -57,4 +57,4 @@ follows cfg past e (own, sent) = record {
 pub merge_is_run : (cfg : Config) → MergesAreRuns cfg
 merge_is_run cfg journals history are own sent merge =
     throughout_from _ (Follows cfg) (follows cfg) (past_of history)
-    (merge_holds (IsOwnStep cfg) journals history (own-step-local cfg) are own sent merge)
+    (merge_holds (IsOwnStep cfg) journals history (own_step_local cfg) are own sent merge)

@@ -5,7 +5,7 @@ use Rattle.std.specs.Fmt.{digits}
 use Rattle.std.specs.Option.{option_map_or}
 use Rattle.std.proofs.lemmas.List.Elements.{All-cons}
 use Rattle.majority.specs.Ballots.{IsMajority}
-use Rattle.majority.proofs.Lists.{IsDistinct-cons, IsDistinct-nil}
+use Rattle.majority.proofs.Lists.{IsDistinct_cons, IsDistinct_nil}
 use Rattle.fix_ante.specs.declared.spots.Owner.{Owner}
 use Rattle.app_law.specs.declared.any_app.AnyApp.{AnyApp}
 use Rattle.app_law.specs.declared.any_app.AnyApp.TheVariants as apps
@@ -39,7 +39,7 @@ all_of_two P one two = All-cons P 1 (2 ∷ []) one (All-cons P 2 [] two (λ k d 
 two_of_three : IsMajority 3 (1 ∷ 2 ∷ [])
 two_of_three = record {
   within = all_of_two (λ replica. replica < 3) (omega arith) (omega arith);
-  distinct = IsDistinct-cons 1 (2 ∷ []) (refl, tt) (IsDistinct-cons 2 [] tt IsDistinct-nil);
+  distinct = IsDistinct_cons 1 (2 ∷ []) (refl, tt) (IsDistinct_cons 2 [] tt IsDistinct_nil);
   most = omega arith;
 }
 

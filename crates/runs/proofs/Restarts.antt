@@ -12,7 +12,7 @@ use Rattle.shard_node.specs.Restart as replica
 use Rattle.shard_node.proofs.Lives.{restart_is_the_items as replica_restarts}
 use Rattle.client_node.specs.Steps.{client_step}
 use Rattle.client_node.specs.Restart as client
-use Rattle.client_node.proofs.Restarts.{restart-items}
+use Rattle.client_node.proofs.Restarts.{restart_items}
 use Rattle.consumer_node.specs.Apps.{any_meaning}
 use Rattle.consumer_node.specs.Steps.{consumer_step}
 use Rattle.consumer_node.specs.Restart as consumer
@@ -43,7 +43,7 @@ pub replica_in_place : (cfg : Config) (node : NodeId) → IsValidConfig cfg → 
 replica_in_place cfg node valid here taken each = replica_restarts cfg node taken valid here each
 
 pub client_in_place : (cfg : Config) (node : NodeId) → RestartsInPlace client_step (client.fresh_node cfg node) (client.restart_of cfg node)
-client_in_place cfg node taken each = restart-items cfg node taken each
+client_in_place cfg node taken each = restart_items cfg node taken each
 
 pub consumer_in_place : (cfg : Config) (node : NodeId) → IsValidConfig cfg → IsNodeOf cfg node
     → RestartsInPlace (consumer_step any_meaning) (consumer.fresh_node any_meaning cfg node) (consumer.restart_of any_meaning cfg node)

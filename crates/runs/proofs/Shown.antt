@@ -1,7 +1,7 @@
 -- Marks of all nodes and marks of one: where a mark that was shown stands among its node's, and what holds there.
 use Rattle.std.proofs.Common.{◌≡◌, ◌∙◌, Bool, true, false, List, [], ◌∷◌, ◌++◌, Contains, append_assoc, append-nil, sym, ap, subst, inl, inr, arith, if◌then◌else◌}
 use Rattle.std.proofs.lemmas.List.Elements.{Contains-append_left, Contains-append_right, Contains-append_cases}
-use Rattle.majority.proofs.Lists.{Contains-cases}
+use Rattle.majority.proofs.Lists.{Contains_cases}
 use Rattle.msg_wire.specs.Nodes.{same_node}
 use Rattle.net_model.specs.Pasts.{Past, shown, marks_of, marks_at}
 use Rattle.runs.specs.Names.{NodeId, Mark, HistoryEntry}
@@ -14,7 +14,7 @@ use Rattle.runs.proofs.SameNodes.{node_itself}
 -- a member of a list stands after the members before it
 pub member_stands : {A : Type 0} (x : A) (xs : List A) → Contains xs x → (front : List A) × IsPrefix (front ++ x ∷ []) xs
 member_stands x [] c = absurd (omega (arith, c.1))
-member_stands {A} x (y ∷ xs) c = elim (Contains-cases y x xs c) [
+member_stands {A} x (y ∷ xs) c = elim (Contains_cases y x xs c) [
   | inl same ↦ ([], (xs, ap (λ z. z ∷ xs) same))
   | inr later ↦ let at = member_stands x xs later in (y ∷ at.0, (at.1.0, ap (λ zs. y ∷ zs) at.1.1))
 ]

@@ -4,7 +4,7 @@ use Rattle.std.specs.Prelude.{Contains}
 use Rattle.std.specs.Fmt.{digits}
 use Rattle.std.proofs.lemmas.List.Elements.{All-cons}
 use Rattle.majority.specs.Ballots.{IsMajority}
-use Rattle.majority.proofs.Lists.{IsDistinct-cons, IsDistinct-nil}
+use Rattle.majority.proofs.Lists.{IsDistinct_cons, IsDistinct_nil}
 use Rattle.net_model.specs.Pasts.{Past, sent, shown}
 use Rattle.spec_base.specs.Spelling.{IsValidNode}
 use Rattle.msg_wire.specs.Valid.{IsNodeOf, IsValidWhat}
@@ -116,7 +116,7 @@ copied_is_a_run = (
 one_of_one : IsMajority 1 (0 ∷ [])
 one_of_one = record {
   within = All-cons (λ replica. replica < 1) 0 [] (omega arith) (λ k d h. absurd (omega (arith, h)));
-  distinct = IsDistinct-cons 0 [] tt IsDistinct-nil;
+  distinct = IsDistinct_cons 0 [] tt IsDistinct_nil;
   most = omega arith;
 }
 

@@ -3,7 +3,7 @@
 use Rattle.std.proofs.Common.{◌≡◌, ℕ, ◌==◌, List, [], ◌∷◌, ◌++◌, length, None, refl, sym, subst, append_assoc, append-nil}
 use Rattle.majority.specs.Ballots.{greater_promise}
 use Rattle.majority.specs.Acceptors.{AcceptorState}
-use Rattle.majority.proofs.Lists.{Contains-none}
+use Rattle.majority.proofs.Lists.{Contains_none}
 use Rattle.msg_wire.specs.Nodes.{number_of}
 use Rattle.msg_wire.specs.Valid.{IsValidConfig}
 use Rattle.node_rules.specs.Names.{Event}
@@ -109,9 +109,9 @@ module _ (cfg : Config) (valid : IsValidConfig cfg) (slot : ℕ) where
       (record {
         starts = λ node one here. record {
           of_item = tt;
-          promised = λ ballot c. absurd (Contains-none _ c);
-          accepted = λ ballot entry c. absurd (Contains-none _ c);
-          last = λ ballot entry c. Contains-none _ c;
+          promised = λ ballot c. absurd (Contains_none _ c);
+          accepted = λ ballot entry c. absurd (Contains_none _ c);
+          last = λ ballot entry c. Contains_none _ c;
           rises = tt;
         };
         steps = λ e past run one before.

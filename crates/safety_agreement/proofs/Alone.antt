@@ -8,19 +8,19 @@ use Rattle.majority.specs.Acceptors.{AcceptorState, with_promise, with_vote}
 use Rattle.majority.specs.Proposers.{Attempt, value_to_send, value_of_report, with_heard, with_sending, greater_report}
 use Rattle.majority.specs.Slot.{Promise, Accept, SlotState, with_entry}
 use Rattle.majority.specs.Agreement.{IsSound, IsAttemptIfAny, bars_of}
-use Rattle.majority.proofs.Entries.{with_entry-cases, with_entry-other}
-use Rattle.majority.proofs.Lists.{Contains-here}
-use Rattle.majority.proofs.Steps.{with_entry-here, IsSound-same}
-use Rattle.majority.proofs.Promises.{IsAttempt-stands}
-use Rattle.majority.proofs.Starts.{IsSound-attempt}
+use Rattle.majority.proofs.Entries.{with_entry_cases, with_entry_other}
+use Rattle.majority.proofs.Lists.{Contains_here}
+use Rattle.majority.proofs.Steps.{with_entry_here, IsSound_same}
+use Rattle.majority.proofs.Promises.{IsAttempt_stands}
+use Rattle.majority.proofs.Starts.{IsSound_attempt}
 use Rattle.runs.specs.Names.{Entry}
 use Rattle.safety_agreement.proofs.Mirrors.{changed}
 use Rattle.safety_agreement.proofs.Machine.{vote_of, promise_sound, send_sound, after_send, stands_there}
 
 twice : {X : Type 0} (i : ℕ) (x y : X) (entries : ℕ → X) → with_entry i x entries ≡ with_entry i x (with_entry i y entries)
 twice {X} i x y entries =
-    sym (fun_ext (with_entry-cases (λ (j : ℕ) (z : X). z ≡ with_entry i x entries j) i x (with_entry i y entries) (sym (with_entry-here i x entries))
-    (λ j other. with_entry-other i j y entries other ∙ sym (with_entry-other i j x entries other))))
+    sym (fun_ext (with_entry_cases (λ (j : ℕ) (z : X). z ≡ with_entry i x entries j) i x (with_entry i y entries) (sym (with_entry_here i x entries))
+    (λ j other. with_entry_other i j y entries other ∙ sym (with_entry_other i j x entries other))))
 
 pub never_less : (b : ℕ) → greater_promise (Some b) b ≡ None
 never_less b = ap (λ (t : Bool). if t then Some b else None) (le-ltb b b (omega arith))
@@ -52,7 +52,7 @@ module _ (n i : ℕ) (state : SlotState Entry) (within : i < n) (sound : IsSound
   reporting_sound = promise_sound n i state within sound a.ballot free
 
   promised_now : reporting.acceptors i ≡ with_promise a.ballot (state.acceptors i)
-  promised_now = with_entry-here i (with_promise a.ballot (state.acceptors i)) state.acceptors
+  promised_now = with_entry_here i (with_promise a.ballot (state.acceptors i)) state.acceptors
 
   -- then it hears that, and sends the same value
   abbrev reported : Attempt Entry
@@ -63,8 +63,8 @@ module _ (n i : ℕ) (state : SlotState Entry) (within : i < n) (sound : IsSound
 
   sending_sound : IsSound n sending
   sending_sound =
-      send_sound n i reporting within reporting_sound i (state.acceptors i).accepted a v (with_entry-here i (state.attempts i) state.attempts ∙ stood)
-      (Contains-here (Promise i a.ballot (state.acceptors i).accepted) state.sent) not_yet
+      send_sound n i reporting within reporting_sound i (state.acceptors i).accepted a v (with_entry_here i (state.attempts i) state.attempts ∙ stood)
+      (Contains_here (Promise i a.ballot (state.acceptors i).accepted) state.sent) not_yet
       (subst (λ (x : AcceptorState Entry). greater_promise x.promised a.ballot ≡ None) (sym promised_now) (never_less a.ballot)) most
       (ap (λ (x : AcceptorState Entry). value_to_send x (with_heard i (state.acceptors i).accepted a)) promised_now
       ∙ (ap (λ r. value_of_report r a.wish) (report_again (state.acceptors i).accepted a.reported) ∙ value_is))
@@ -72,8 +72,8 @@ module _ (n i : ℕ) (state : SlotState Entry) (within : i < n) (sound : IsSound
   -- the attempt that keeps no report of it stands as well
   unreported : IsAttemptIfAny n sending.votes (bars_of sending.acceptors i) sending.sent i (Some (with_sending v (with_heard i None a)))
   unreported =
-      let is = stands_there n i sending within sending_sound reported (with_entry-here i (Some reported) reporting.attempts) in
-      IsAttempt-stands n i sending.votes (bars_of sending.acceptors i) sending.sent reported (with_heard i None a).reported (Some v) reported.acceptances is
+      let is = stands_there n i sending within sending_sound reported (with_entry_here i (Some reported) reporting.attempts) in
+      IsAttempt_stands n i sending.votes (bars_of sending.acceptors i) sending.sent reported (with_heard i None a).reported (Some v) reported.acceptances is
       (record { own = is.stands.own; within = is.stands.within; distinct = is.stands.distinct; voted = is.stands.voted })
 
   pub alone_sound : IsSound n (changed i (with_vote a.ballot v (state.acceptors i)) (Some (with_sending v (with_heard i None a)))
@@ -81,8 +81,8 @@ module _ (n i : ℕ) (state : SlotState Entry) (within : i < n) (sound : IsSound
       (Accept a.ballot v ∷ (Promise i a.ballot (state.acceptors i).accepted ∷ state.sent)) state)
   alone_sound =
       let next : Option (Attempt Entry) = Some (with_sending v (with_heard i None a)) in
-      IsSound-same n (record sending { attempts = with_entry i next sending.attempts })
+      IsSound_same n (record sending { attempts = with_entry i next sending.attempts })
       (with_entry i (with_vote a.ballot v (state.acceptors i)) state.acceptors) (with_entry i next state.attempts)
       (twice i (with_vote a.ballot v (state.acceptors i)) (with_promise a.ballot (state.acceptors i)) state.acceptors)
       (twice i next (state.attempts i) state.attempts ∙ twice i next (Some reported) reporting.attempts)
-      (IsSound-attempt n i sending next sending_sound unreported)
+      (IsSound_attempt n i sending next sending_sound unreported)

@@ -6,8 +6,8 @@ use Rattle.majority.specs.Proposers.{Attempt}
 use Rattle.majority.specs.Votes.{Vote, HasVote}
 use Rattle.majority.specs.Slot.{Message as SlotMessage, SlotState}
 use Rattle.majority.specs.Agreement.{IsSound}
-use Rattle.majority.proofs.Lists.{Contains-here, Contains-later, Contains-cases}
-use Rattle.majority.proofs.Steps.{with_entry-here}
+use Rattle.majority.proofs.Lists.{Contains_here, Contains_later, Contains_cases}
+use Rattle.majority.proofs.Steps.{with_entry_here}
 use Rattle.seq_node.specs.States.{SequencerState, acceptor_at}
 use Rattle.runs.specs.Names.{Entry, Item}
 use Rattle.runs.specs.Names.items
@@ -36,9 +36,9 @@ module _ (n slot i : ℕ) (state : SlotState Entry) (old : SequencerState) (stor
       → ((ballot : ℕ) (entry : Entry) → HasVote votes i ballot entry → Contains later (items.Accepted slot ballot entry))
       → Mirrors slot i (changed i acceptor attempt votes sent state) own later
   put_mirrors acceptor attempt votes sent own later acceptor_is attempt_is offered voted cast = record {
-    acceptor = with_entry-here i acceptor state.acceptors ∙ acceptor_is;
-    attempt = with_entry-here i attempt state.attempts ∙ attempt_is;
-    offered = subst (IsOfferedIfAny sent) (sym (with_entry-here i attempt state.attempts)) offered;
+    acceptor = with_entry_here i acceptor state.acceptors ∙ acceptor_is;
+    attempt = with_entry_here i attempt state.attempts ∙ attempt_is;
+    offered = subst (IsOfferedIfAny sent) (sym (with_entry_here i attempt state.attempts)) offered;
     voted = voted;
     votes = cast;
   }
@@ -66,22 +66,22 @@ module _ (n slot i : ℕ) (state : SlotState Entry) (old : SequencerState) (stor
       → HasVote (vote_of i b v ∷ state.votes) i ballot entry
   vote_stored b v ballot entry c =
       elim (Contains-push_cases stored (items.Accepted slot b v) (items.Accepted slot ballot entry) c) [
-        | inl before ↦ Contains-later (vote_of i b v) (vote_of i ballot entry) state.votes (was.voted ballot entry before)
+        | inl before ↦ Contains_later (vote_of i b v) (vote_of i ballot entry) state.votes (was.voted ballot entry before)
         | inr same ↦
             let at_ballot : b ≡ ballot = cc in
             let of_value : v ≡ entry = cc in
             subst (λ w. HasVote (vote_of i b v ∷ state.votes) i ballot w) of_value
-            (subst (λ c. HasVote (vote_of i b v ∷ state.votes) i c v) at_ballot (Contains-here (vote_of i b v) state.votes))
+            (subst (λ c. HasVote (vote_of i b v ∷ state.votes) i c v) at_ballot (Contains_here (vote_of i b v) state.votes))
       ]
 
   vote_cast : (b : ℕ) (v : Entry) (ballot : ℕ) (entry : Entry) → HasVote (vote_of i b v ∷ state.votes) i ballot entry
       → Contains (stored ++ items.Accepted slot b v ∷ []) (items.Accepted slot ballot entry)
   vote_cast b v ballot entry h =
-      elim (Contains-cases (vote_of i b v) (vote_of i ballot entry) state.votes h) [
+      elim (Contains_cases (vote_of i b v) (vote_of i ballot entry) state.votes h) [
         | inl same ↦
             let All : Item → Type 0 = Contains (stored ++ items.Accepted slot b v ∷ []) in
             subst (λ (x : Vote Entry). All (items.Accepted slot x.ballot x.value)) same
-            (Contains-append_right stored (items.Accepted slot b v ∷ []) (items.Accepted slot b v) (Contains-here (items.Accepted slot b v) []))
+            (Contains-append_right stored (items.Accepted slot b v ∷ []) (items.Accepted slot b v) (Contains_here (items.Accepted slot b v) []))
         | inr before ↦ Contains-append_left stored (items.Accepted slot b v ∷ []) (items.Accepted slot ballot entry) (was.votes ballot entry before)
       ]
 

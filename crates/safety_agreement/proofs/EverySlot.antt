@@ -2,8 +2,8 @@
 use Rattle.std.proofs.Common.{◌≡◌, ◌∙◌, ℕ, [], ◌∷◌, Some, refl, sym, ap}
 use Rattle.std.specs.List.{slice_get}
 use Rattle.majority.specs.Slot.{fresh_slot}
-use Rattle.majority.proofs.Lists.{Contains-none}
-use Rattle.majority.proofs.Schedules.{IsSound-fresh}
+use Rattle.majority.proofs.Lists.{Contains_none}
+use Rattle.majority.proofs.Schedules.{IsSound_fresh}
 use Rattle.msg_wire.specs.Valid.{IsValidConfig}
 use Rattle.net_model.specs.Pasts.{Past}
 use Rattle.runs.specs.Names.{Config, Entry, HistoryEntry}
@@ -32,15 +32,15 @@ module _ (cfg : Config) (valid : IsValidConfig cfg) (slot : ℕ) where
   slot_starts = (
     fresh_slot,
     record {
-      sound = IsSound-fresh cfg.seqs;
+      sound = IsSound_fresh cfg.seqs;
       mirrors = λ number here. record {
         acceptor = refl;
         attempt = refl;
         offered = tt;
-        voted = λ ballot entry c. absurd (Contains-none _ c);
-        votes = λ ballot entry h. absurd (Contains-none _ h);
+        voted = λ ballot entry c. absurd (Contains_none _ c);
+        votes = λ ballot entry h. absurd (Contains_none _ h);
       };
-      said = λ m c. absurd (Contains-none m c);
+      said = λ m c. absurd (Contains_none m c);
       known = λ node entry at.
           let none : slice_get [] slot ≡ Some entry = sym (ap (λ l. slice_get (known_by l) slot) (no_items cfg node)) ∙ at in
           absurd (nothing_there entry slot none);

@@ -3,9 +3,9 @@ use Rattle.std.proofs.Common.{◌≡◌, ◌∙◌, ℕ, ◌<◌, List, [], ◌�
 use Rattle.std.proofs.lemmas.List.Elements.{Contains-append_left}
 use Rattle.majority.specs.Proposers.{Attempt}
 use Rattle.majority.specs.Agreement.{HasPromises, ReportedBy}
-use Rattle.majority.proofs.Growth.{HasPromises-kept}
-use Rattle.majority.proofs.Heard.{HasPromises-heard}
-use Rattle.majority.proofs.Starts.{Contains-alone}
+use Rattle.majority.proofs.Growth.{HasPromises_kept}
+use Rattle.majority.proofs.Heard.{HasPromises_heard}
+use Rattle.majority.proofs.Starts.{Contains_alone}
 use Rattle.msg_wire.specs.Nodes.{number_of}
 use Rattle.msg_wire.specs.Valid.{IsValidConfig}
 use Rattle.net_model.specs.Pasts.{Past, sent}
@@ -38,7 +38,7 @@ MayHave messages me (Some a) = HasPromises (number_of me) (Promised messages me 
 has_on : (messages more : List Message) (me : NodeId) (o : Option SlotAttempt) → MayHave messages me o → MayHave (messages ++ more) me o
 has_on messages more me None has = tt
 has_on messages more me (Some a) has =
-    HasPromises-kept (number_of me) (Promised messages me a) (Promised (messages ++ more) me a)
+    HasPromises_kept (number_of me) (Promised messages me a) (Promised (messages ++ more) me a)
     (λ other report is. (is.0, Contains-append_left messages more is.0 is.1, is.2, is.3, is.4)) a.attempt has
 
 -- ---- at each place
@@ -58,7 +58,7 @@ module _ (cfg : Config) (me : NodeId) (here : number_of me < cfg.seqs) (past : P
   begun_has : (s : Node SequencerState) (slot : ℕ) (a : Attempt Entry) → IsNamed cfg me s → a.promises ≡ number_of s.base.me ∷ [] → a.reported ≡ None
       → HasPromises (number_of me) (IsPromised (sent past) me slot a.ballot) a
   begun_has s slot a named alone none = record {
-    heard = λ other there. inl (sym (Contains-alone (number_of s.base.me) other (subst (λ l. Contains l other) alone there)) ∙ ap number_of named.1);
+    heard = λ other there. inl (sym (Contains_alone (number_of s.base.me) other (subst (λ l. Contains l other) alone there)) ∙ ap number_of named.1);
     reported = subst (ReportedBy (IsPromised (sent past) me slot a.ballot) a.promises) (sym none) tt;
   }
 
@@ -72,7 +72,7 @@ module _ (cfg : Config) (me : NodeId) (here : number_of me < cfg.seqs) (past : P
   stores_has s _ _ (begins_at_once value why) named has = begun_has s _ _ named refl refl
   stores_has s _ _ (begins ballot value why later) named has = begun_has s _ _ named refl refl
   stores_has s _ _ (sends a replica report value counted why) named has =
-      let one = HasPromises-heard (number_of me) (Promised (sent past) me a) replica report a.attempt
+      let one = HasPromises_heard (number_of me) (Promised (sent past) me a) replica report a.attempt
       (promise_is s a.slot a.attempt.ballot replica report named counted.promise) (subst Has counted.stands has) in
       record { heard = one.heard; reported = one.reported }
 
@@ -80,7 +80,7 @@ module _ (cfg : Config) (me : NodeId) (here : number_of me < cfg.seqs) (past : P
   changes_has s _ (waits a replica report _ counted (is_late late)) named has = subst Has counted.stands has
   changes_has s _ (waits a replica report _ counted (is_lower greater e)) named has = subst Has counted.stands has
   changes_has s _ (waits a replica report _ counted (is_waiting not_yet few)) named has =
-      HasPromises-heard (number_of me) (Promised (sent past) me a) replica report a.attempt
+      HasPromises_heard (number_of me) (Promised (sent past) me a) replica report a.attempt
       (promise_is s a.slot a.attempt.ballot replica report named counted.promise) (subst Has counted.stands has)
   changes_has s _ (hears a replica value stands why sending) named has =
       let was = subst Has stands has in

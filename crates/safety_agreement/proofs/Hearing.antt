@@ -5,8 +5,8 @@ use Rattle.majority.specs.Proposers.{Attempt, with_heard}
 use Rattle.majority.specs.Slot.{Message as SlotMessage, Promise, SlotState}
 use Rattle.majority.specs.Agreement.{IsSound, AttemptStands, AttemptsAreUnvoted, AttemptsHavePromises}
 use Rattle.majority.proofs.Heard as heard
-use Rattle.majority.proofs.Heard.{HasPromises-heard}
-use Rattle.majority.proofs.Members.{IsDistinct-with_replica, All-with_replica}
+use Rattle.majority.proofs.Heard.{HasPromises_heard}
+use Rattle.majority.proofs.Members.{IsDistinct_with_replica, All_with_replica}
 use Rattle.runs.specs.Names.{Entry}
 use Rattle.safety_agreement.proofs.Mirrors.{changed}
 use Rattle.safety_agreement.proofs.Machine.{attempt_sound, stands_there}
@@ -44,9 +44,9 @@ module _ (n i : ℕ) (state : SlotState Entry) (within : i < n) (sound : IsSound
         count = was.count;
         owned = was.owned;
         barred = was.barred;
-        within = All-with_replica (λ k. k < n) from a.promises was.within (promiser_below a from report stood is);
-        distinct = IsDistinct-with_replica from a.promises was.distinct;
+        within = All_with_replica (λ k. k < n) from a.promises was.within (promiser_below a from report stood is);
+        distinct = IsDistinct_with_replica from a.promises was.distinct;
         stands =
             subst (λ s. AttemptStands state.votes state.sent n (with_heard from report a) s) (sym none)
-            (before.0, HasPromises-heard a.replica (Promised state.sent a) from report a is before.1);
+            (before.0, HasPromises_heard a.replica (Promised state.sent a) from report a is before.1);
       })

@@ -9,13 +9,13 @@ use Rattle.majority.specs.declared.answers.PromiseAnswer.TheVariants as promise
 use Rattle.majority.specs.Votes.{Vote, HasVote}
 use Rattle.majority.specs.Slot.{Message as SlotMessage, Prepare, Promise, Accept, Accepted, SlotState, with_entry, slot_started, sent_for_prepare, sent_for_accept, votes_for_accept, promise_answered}
 use Rattle.majority.specs.Agreement.{IsSound, IsAttempt, IsAttemptIfAny, IsTrueMessage, AttemptsAreVoted, AttemptStands, bars_of}
-use Rattle.majority.proofs.Entries.{Contains-elim}
-use Rattle.majority.proofs.Growth.{Grows, IsAttemptIfAny-kept}
-use Rattle.majority.proofs.Lists.{Contains-later}
+use Rattle.majority.proofs.Entries.{Contains_elim}
+use Rattle.majority.proofs.Growth.{Grows, IsAttemptIfAny_kept}
+use Rattle.majority.proofs.Lists.{Contains_later}
 use Rattle.majority.proofs.Chosen.{OneValuePerBallot}
-use Rattle.majority.proofs.Steps.{with_entry-kept, IsSound-same, IsSound-prepare, IsSound-accept}
-use Rattle.majority.proofs.Starts.{IsSound-attempt, IsSound-start}
-use Rattle.majority.proofs.Promises.{IsSound-promise, IsAttempt-counted}
+use Rattle.majority.proofs.Steps.{with_entry_kept, IsSound_same, IsSound_prepare, IsSound_accept}
+use Rattle.majority.proofs.Starts.{IsSound_attempt, IsSound_start}
+use Rattle.majority.proofs.Promises.{IsSound_promise, IsAttempt_counted}
 use Rattle.runs.specs.Names.{Entry}
 use Rattle.safety_agreement.proofs.Mirrors.{changed}
 
@@ -44,17 +44,17 @@ say_sound n state sound m holds =
       votes_kept = λ j c w vote. vote;
       votes_new = λ j c w vote. inl vote;
       bars_grow = λ j c reached. reached;
-      sent_kept = λ x c. Contains-later m x state.sent c;
+      sent_kept = λ x c. Contains_later m x state.sent c;
     } in
     record {
       agreed = record {
         one_vote = sound.agreed.one_vote;
         owners = sound.agreed.owners;
         acceptors = sound.agreed.acceptors;
-        messages = Contains-elim (IsTrueMessage n state.votes bars) m state.sent holds sound.agreed.messages;
+        messages = Contains_elim (IsTrueMessage n state.votes bars) m state.sent holds sound.agreed.messages;
         safe = sound.agreed.safe;
       };
-      attempts = λ j. IsAttemptIfAny-kept state.votes state.votes bars bars state.sent (m ∷ state.sent) grows n j (state.attempts j)
+      attempts = λ j. IsAttemptIfAny_kept state.votes state.votes bars bars state.sent (m ∷ state.sent) grows n j (state.attempts j)
           (λ ballot above owned none. none) (sound.attempts j);
     }
 
@@ -63,16 +63,16 @@ module _ (n i : ℕ) (state : SlotState Entry) (within : i < n) (sound : IsSound
   pub attempt_sound : (attempt : Option (Attempt Entry)) → IsAttemptIfAny n state.votes (bars_of state.acceptors i) state.sent i attempt
       → IsSound n (changed i (state.acceptors i) attempt state.votes state.sent state)
   attempt_sound attempt is =
-      IsSound-same n (record state { attempts = with_entry i attempt state.attempts }) (with_entry i (state.acceptors i) state.acceptors)
-      (with_entry i attempt state.attempts) (with_entry-kept i (state.acceptors i) state.acceptors refl) refl (IsSound-attempt n i state attempt sound is)
+      IsSound_same n (record state { attempts = with_entry i attempt state.attempts }) (with_entry i (state.acceptors i) state.acceptors)
+      (with_entry i attempt state.attempts) (with_entry_kept i (state.acceptors i) state.acceptors refl) refl (IsSound_attempt n i state attempt sound is)
 
   -- its attempt stays, in a state that says it of the acceptors alone
   back : (acceptors : ℕ → AcceptorState Entry) (votes : List (Vote Entry)) (sent : List (SlotMessage Entry))
       → IsSound n (record { acceptors = acceptors; attempts = state.attempts; votes = votes; sent = sent })
       → IsSound n (record { acceptors = acceptors; attempts = with_entry i (state.attempts i) state.attempts; votes = votes; sent = sent })
   back acceptors votes sent is =
-      IsSound-same n (record { acceptors = acceptors; attempts = state.attempts; votes = votes; sent = sent }) acceptors
-      (with_entry i (state.attempts i) state.attempts) refl (with_entry-kept i (state.attempts i) state.attempts refl) is
+      IsSound_same n (record { acceptors = acceptors; attempts = state.attempts; votes = votes; sent = sent }) acceptors
+      (with_entry i (state.attempts i) state.attempts) refl (with_entry_kept i (state.attempts i) state.attempts refl) is
 
   -- it promises a ballot
   pub promise_sound : (b : ℕ) → greater_promise (state.acceptors i).promised b ≡ None
@@ -85,7 +85,7 @@ module _ (n i : ℕ) (state : SlotState Entry) (within : i < n) (sound : IsSound
         sent = sent_for_prepare (prepare_answer_unless o (state.acceptors i)) i b state.sent;
       }) in
       back (with_entry i (with_promise b (state.acceptors i)) state.acceptors) state.votes (Promise i b (state.acceptors i).accepted ∷ state.sent)
-      (subst Answered free (IsSound-prepare n i b state within sound))
+      (subst Answered free (IsSound_prepare n i b state within sound))
 
   -- it votes as it was asked to
   pub accept_sound : (b : ℕ) (v : Entry) → greater_promise (state.acceptors i).promised b ≡ None → Contains state.sent (Accept b v)
@@ -98,7 +98,7 @@ module _ (n i : ℕ) (state : SlotState Entry) (within : i < n) (sound : IsSound
         sent = sent_for_accept (accept_answer_unless o) i b state.sent;
       }) in
       back (with_entry i (with_vote b v (state.acceptors i)) state.acceptors) (vote_of i b v ∷ state.votes) (Accepted i b ∷ state.sent)
-      (subst Answered free (IsSound-accept n i b v state within asked sound))
+      (subst Answered free (IsSound_accept n i b v state within asked sound))
 
   -- it begins, and votes at once where the ballot is 0
   abbrev pub after_begin : Bool → ℕ → Entry → SlotState Entry
@@ -110,7 +110,7 @@ module _ (n i : ℕ) (state : SlotState Entry) (within : i < n) (sound : IsSound
       → IsSound n (after_begin at_once b wish)
   begin_sound at_once b highest wish zero_is ballot_is =
       subst (λ (t : Bool). IsSound n (after_begin t b wish)) zero_is
-      (subst (λ (c : ℕ). IsSound n (slot_started i n c wish state)) (sym ballot_is) (IsSound-start n i wish state within sound highest))
+      (subst (λ (c : ℕ). IsSound n (slot_started i n c wish state)) (sym ballot_is) (IsSound_start n i wish state within sound highest))
 
   -- ---- a promise comes to its attempt, and the value is sent
 
@@ -135,7 +135,7 @@ module _ (n i : ℕ) (state : SlotState Entry) (within : i < n) (sound : IsSound
       let same : (a.ballot == a.ballot) ≡ true = eq-eqb a.ballot a.ballot refl in
       subst (λ (x : PromiseAnswer Entry). IsSound n (promise_answered x i from report a state)) answer
       (subst (λ (t : Bool). IsSound n (if t then promise_answered (promise_answer from report (state.acceptors i) a) i from report a state else state)) same
-      (IsSound-promise n i from a.ballot report state within member sound (Some a) stood))
+      (IsSound_promise n i from a.ballot report state within member sound (Some a) stood))
 
   -- ---- its attempt
 
@@ -148,7 +148,7 @@ module _ (n i : ℕ) (state : SlotState Entry) (within : i < n) (sound : IsSound
       → IsSound n (changed i (state.acceptors i) (Some (with_acceptance from a)) state.votes state.sent state)
   count_sound from a v stood sending below vote =
       attempt_sound (Some (with_acceptance from a))
-      (IsAttempt-counted n i from a v state.votes (bars_of state.acceptors i) state.sent below vote (stands_there a stood) sending)
+      (IsAttempt_counted n i from a v state.votes (bars_of state.acceptors i) state.sent below vote (stands_there a stood) sending)
 
   -- a message Accepted is a vote of the value that is being sent
   pub told_vote : (from : ℕ) (a : Attempt Entry) (v : Entry) → state.attempts i ≡ Some a → a.sending ≡ Some v

@@ -5,7 +5,7 @@ use Rattle.std.specs.List.{AllByRecursion, slice_get}
 use Rattle.majority.specs.Votes.{IsChosenByVotes}
 use Rattle.majority.specs.Slot.{SlotState}
 use Rattle.majority.specs.Agreement.{IsSound}
-use Rattle.majority.proofs.Decided.{IsChosenAt-kept}
+use Rattle.majority.proofs.Decided.{IsChosenAt_kept}
 use Rattle.msg_wire.specs.Nodes.{number_of, is_sequencer}
 use Rattle.msg_wire.specs.Valid.{IsValidEvent}
 use Rattle.node_rules.specs.Names.{Event, Message}
@@ -35,7 +35,7 @@ at_end (z ∷ xs) x y (suc k) e = elim (at_end xs x y k e) [
 -- what is chosen stays so
 pub chosen_on : (n i : ℕ) (old new : SlotState Entry) (entry : Entry) → Moves i old new → IsChosenByVotes n old.votes entry → IsChosenByVotes n new.votes entry
 chosen_on n i old new entry moves is =
-    (is.0, IsChosenAt-kept n old.votes new.votes is.0 entry (λ vote there. moves.kept vote.replica vote.ballot vote.value there) is.1)
+    (is.0, IsChosenAt_kept n old.votes new.votes is.0 entry (λ vote there. moves.kept vote.replica vote.ballot vote.value there) is.1)
 
 -- what is known as a step begins
 pub record Given (cfg : Config) (slot : ℕ) (me : NodeId) (start : SlotState Entry) (earlier : List Item) (n : Node SequencerState)

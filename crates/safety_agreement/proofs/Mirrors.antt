@@ -7,8 +7,8 @@ use Rattle.majority.specs.Acceptors.{AcceptorState}
 use Rattle.majority.specs.Proposers.{Attempt}
 use Rattle.majority.specs.Votes.{Vote, HasVote}
 use Rattle.majority.specs.Slot.{Message as SlotMessage, Prepare, Promise, Accept, Accepted, SlotState, with_entry}
-use Rattle.majority.proofs.Lists.{Contains-cases, Contains-later}
-use Rattle.majority.proofs.Entries.{with_entry-other}
+use Rattle.majority.proofs.Lists.{Contains_cases, Contains_later}
+use Rattle.majority.proofs.Entries.{with_entry_other}
 use Rattle.msg_wire.specs.Nodes.{number_of}
 use Rattle.seq_node.specs.States.{SlotAttempt, SequencerState, acceptor_at}
 use Rattle.runs.specs.Names.{NodeId, Entry, Item, What}
@@ -84,11 +84,11 @@ adds_none i votes = record { votes = λ j ballot entry other h. h; kept = λ j b
 pub adds_one : (i b : ℕ) (v : Entry) (votes : List (Vote Entry)) → AddsVotes i votes (record { replica = i; ballot = b; value = v } ∷ votes)
 adds_one i b v votes = record {
   votes = λ j ballot entry other h.
-      elim (Contains-cases (record { replica = i; ballot = b; value = v }) (record { replica = j; ballot = ballot; value = entry }) votes h) [
+      elim (Contains_cases (record { replica = i; ballot = b; value = v }) (record { replica = j; ballot = ballot; value = entry }) votes h) [
         | inl same ↦ absurd (other (sym (ap (λ (x : Vote Entry). x.replica) same)))
         | inr old ↦ old
       ];
-  kept = λ j ballot entry h. Contains-later _ _ votes h;
+  kept = λ j ballot entry h. Contains_later _ _ votes h;
 }
 
 -- the replica's acceptor and attempt become these
@@ -100,8 +100,8 @@ pub changed_moves : (i : ℕ) (acceptor : AcceptorState Entry) (attempt : Option
     (state : SlotState Entry) → AddsVotes i state.votes votes → ((m : SlotMessage Entry) → Contains state.sent m → Contains sent m)
     → Moves i state (changed i acceptor attempt votes sent state)
 changed_moves i acceptor attempt votes sent state adds more = record {
-  acceptors = λ j other. with_entry-other i j acceptor state.acceptors other;
-  attempts = λ j other. with_entry-other i j attempt state.attempts other;
+  acceptors = λ j other. with_entry_other i j acceptor state.acceptors other;
+  attempts = λ j other. with_entry_other i j attempt state.attempts other;
   votes = adds.votes;
   kept = adds.kept;
   sent = more;

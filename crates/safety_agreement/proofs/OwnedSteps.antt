@@ -6,7 +6,7 @@ use Rattle.std.proofs.lemmas.Bool.{and_parts}
 use Rattle.majority.specs.Ballots.{next_ballot}
 use Rattle.majority.specs.Acceptors.{AcceptorState}
 use Rattle.majority.specs.Proposers.{takes_zero, ballot_for}
-use Rattle.majority.proofs.Numbers.{IsNextBallot-next, zero_from_test}
+use Rattle.majority.proofs.Numbers.{IsNextBallot_next, zero_from_test}
 use Rattle.msg_wire.specs.Nodes.{number_of, is_sequencer}
 use Rattle.msg_wire.specs.Valid.{IsNodeOf}
 use Rattle.node_rules.specs.Nodes.{Node, agreed_by}
@@ -32,7 +32,7 @@ owned_for replica n highest own here =
     (λ zero_taken.
     let first = zero_from_test replica (and_parts (replica == 0) _ zero_taken).0 in
     mod-eq_of_lt (omega (arith, here)) ∙ sym first)
-    (λ _. (IsNextBallot-next replica n floor here).owned)
+    (λ _. (IsNextBallot_next replica n floor here).owned)
 
 pub number_below : (cfg : Config) (node : NodeId) → IsNodeOf cfg node → IsTrue (is_sequencer node) → number_of node < cfg.seqs
 number_below cfg (nodes.Seq number) here one = here

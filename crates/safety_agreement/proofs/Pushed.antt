@@ -5,8 +5,8 @@ use Rattle.std.proofs.lemmas.List.Elements.{Contains-append_left, Contains-appen
 use Rattle.majority.specs.Ballots.{greater_promise}
 use Rattle.majority.specs.Acceptors.{AcceptorState, with_promise, with_vote}
 use Rattle.majority.specs.Agreement.{Reaches}
-use Rattle.majority.proofs.Lists.{Contains-here, Contains-cases, Contains-none}
-use Rattle.majority.proofs.Casts.{Reaches-bound}
+use Rattle.majority.proofs.Lists.{Contains_here, Contains_cases, Contains_none}
+use Rattle.majority.proofs.Casts.{Reaches_bound}
 use Rattle.majority.proofs.Steps.{not_passed}
 use Rattle.runs.specs.Names.{Entry, Item}
 use Rattle.runs.specs.Names.items
@@ -21,7 +21,7 @@ still_there : (stored : List Item) (item x : Item) → Contains stored x → Con
 still_there stored item x c = Contains-append_left stored (item ∷ []) x c
 
 there_now : (stored : List Item) (item : Item) → Contains (stored ++ item ∷ []) item
-there_now stored item = Contains-append_right stored (item ∷ []) item (Contains-here item [])
+there_now stored item = Contains-append_right stored (item ∷ []) item (Contains_here item [])
 
 -- the item is none of the slot's
 pub record IsApart (slot : ℕ) (item : Item) : Type 0 where
@@ -29,9 +29,9 @@ pub record IsApart (slot : ℕ) (item : Item) : Type 0 where
   pub no_vote : (ballot : ℕ) (entry : Entry) → item ≡ items.Accepted slot ballot entry → ⊥
 
 one_of : (x y : Item) → Contains (x ∷ []) y → x ≡ y
-one_of x y c = elim (Contains-cases x y [] c) [
+one_of x y c = elim (Contains_cases x y [] c) [
   | inl same ↦ same
-  | inr none ↦ absurd (Contains-none y none)
+  | inr none ↦ absurd (Contains_none y none)
 ]
 
 module _ (slot : ℕ) (stored : List Item) where
@@ -90,7 +90,7 @@ module _ (slot : ℕ) (stored : List Item) where
       → HasLast slot (stored ++ items.Promised slot ballot ∷ []) (with_promise ballot own)
   promise_pushed own ballot free has =
       let item : Item = items.Promised slot ballot in
-      let below = Reaches-bound own.promised ballot in
+      let below = Reaches_bound own.promised ballot in
       let passes = not_passed own.promised ballot free in
       record {
         of_item = inl (there_now stored item);
@@ -116,7 +116,7 @@ module _ (slot : ℕ) (stored : List Item) where
       → HasLast slot (stored ++ items.Accepted slot ballot entry ∷ []) (with_vote ballot entry own)
   vote_pushed own ballot entry free has =
       let item : Item = items.Accepted slot ballot entry in
-      let below = Reaches-bound own.promised ballot in
+      let below = Reaches_bound own.promised ballot in
       let passes = not_passed own.promised ballot free in
       let no_later : (other : ℕ) (w : Entry) → Contains (stored ++ item ∷ []) (items.Accepted slot other w) → other ≤ ballot =
       λ other w c. elim (Contains-push_cases stored item (items.Accepted slot other w) c) [

@@ -7,9 +7,9 @@ use Rattle.majority.specs.Acceptors.{AcceptorState}
 use Rattle.majority.specs.Votes.{HasVote}
 use Rattle.majority.specs.Slot.{Message as SlotMessage, Promise, Accepted, SlotState}
 use Rattle.majority.specs.Agreement.{IsSound, IsLastVote, IsTrueMessage, Reaches, Tells, bars_of}
-use Rattle.majority.proofs.Heard.{Tells-own}
+use Rattle.majority.proofs.Heard.{Tells_own}
 use Rattle.majority.proofs.Steps.{not_passed}
-use Rattle.majority.proofs.Lists.{Contains-here, Contains-later}
+use Rattle.majority.proofs.Lists.{Contains_here, Contains_later}
 use Rattle.msg_wire.specs.Nodes.{number_of}
 use Rattle.node_rules.specs.Names.{Event}
 use Rattle.node_rules.specs.Nodes.{Node}
@@ -47,7 +47,7 @@ module _ (cfg : Config) (slot : ℕ) (me : NodeId) (within : number_of me < cfg.
     held at here = was.acceptor ∙ ap (acceptor_at s.own) (sym here)
 
     later : (m : SlotMessage Entry) → (x : SlotMessage Entry) → Contains state.sent x → Contains (m ∷ state.sent) x
-    later m x c = Contains-later m x state.sent c
+    later m x c = Contains_later m x state.sent c
 
     -- a true message is said
     true_follows : (m : SlotMessage Entry) → IsTrueMessage cfg.seqs state.votes (bars_of state.acceptors) m
@@ -94,10 +94,10 @@ module _ (cfg : Config) (slot : ℕ) (me : NodeId) (within : number_of me < cfg.
           barred = subst (λ (p : Option ℕ). Reaches p ballot) (sym bar) (omega arith);
           tells =
               subst (Tells state.votes i ballot) (ap (λ (a : AcceptorState Entry). a.accepted) is)
-              (Tells-own cfg.seqs state.votes i ballot (state.acceptors i) (sound.agreed.acceptors i)
+              (Tells_own cfg.seqs state.votes i ballot (state.acceptors i) (sound.agreed.acceptors i)
               (not_passed (state.acceptors i).promised ballot free));
         })
-        (λ same. Contains-here (Promise i ballot report) state.sent)
+        (λ same. Contains_here (Promise i ballot report) state.sent)
 
     -- its acceptance is a vote
     vote_of_last : (last : Option (ℕ × Entry)) (ballot : ℕ) (entry : Entry) → last ≡ Some (ballot, entry) → IsLastVote state.votes i last
@@ -116,7 +116,7 @@ module _ (cfg : Config) (slot : ℕ) (me : NodeId) (within : number_of me < cfg.
           entry,
           vote_of_last (state.acceptors i).accepted ballot entry (ap (λ (a : AcceptorState Entry). a.accepted) is) (sound.agreed.acceptors i).last,
         )
-        (λ same. Contains-here (Accepted i ballot) state.sent)
+        (λ same. Contains_here (Accepted i ballot) state.sent)
 
     -- ---- what an attempt asks for
 

@@ -6,7 +6,7 @@ use Rattle.majority.specs.Acceptors.{AcceptorState, with_promise, with_vote}
 use Rattle.majority.specs.Proposers.{Attempt, ballot_for, with_heard, with_sending, value_to_send}
 use Rattle.majority.specs.Slot.{Message as SlotMessage, Prepare, Promise, Accept, Accepted, SlotState}
 use Rattle.majority.specs.Agreement.{IsSound}
-use Rattle.majority.proofs.Lists.{Contains-here, Contains-later}
+use Rattle.majority.proofs.Lists.{Contains_here, Contains_later}
 use Rattle.msg_wire.specs.Nodes.{number_of}
 use Rattle.node_rules.specs.Nodes.{Node, agreed_by}
 use Rattle.node_rules.specs.Names.{Event}
@@ -65,7 +65,7 @@ module _ (cfg : Config) (slot : ℕ) (me : NodeId) (within : number_of me < cfg.
   elsewhere at b v test ballot entry same = let here : at ≡ slot = cc in eqb-false at slot test here
 
   later : (m : SlotMessage Entry) → (x : SlotMessage Entry) → Contains state.sent x → Contains (m ∷ state.sent) x
-  later m x c = Contains-later m x state.sent c
+  later m x c = Contains_later m x state.sent c
 
   -- a sequencer that is alone is the first
   first_alone : s.base.cfg.seqs ≡ 1 → i ≡ 0
@@ -158,7 +158,7 @@ module _ (cfg : Config) (slot : ℕ) (me : NodeId) (within : number_of me < cfg.
       (ballot_is ballot value why here))
       (later (Prepare ballot))
       (promise_put (begun false ballot value s) (length s.base.known) ballot test made_is) (attempt_is false ballot value here)
-      (Contains-here (Prepare ballot) state.sent))
+      (Contains_here (Prepare ballot) state.sent))
   at_begun ballot value false test why above made_is =
       with_item cfg.seqs slot i state (begun false ballot value s) stored (items.Promised (length s.base.known) ballot) (λ b v e. cc)
       (drop_follows cfg.seqs slot i state s.own stored within sound was (begun false ballot value s)
@@ -176,7 +176,7 @@ module _ (cfg : Config) (slot : ℕ) (me : NodeId) (within : number_of me < cfg.
       (begin_sound cfg.seqs i state within sound true 0 (standing_ballot (length s.base.known) s.own.attempt) value refl (ballot_is 0 value why here))
       (later (Accept 0 value))
       (vote_put (begun true 0 value s) (length s.base.known) 0 value test made_is) (attempt_is true 0 value here)
-      (Contains-here (Accept 0 value) state.sent))
+      (Contains_here (Accept 0 value) state.sent))
   at_begun_at_once value false test why made_is =
       with_item cfg.seqs slot i state (begun true 0 value s) stored (items.Accepted (length s.base.known) 0 value)
       (elsewhere (length s.base.known) 0 value test)
@@ -212,7 +212,7 @@ module _ (cfg : Config) (slot : ℕ) (me : NodeId) (within : number_of me < cfg.
       why.majority (ap (λ (x : AcceptorState Entry). value_to_send x (with_heard (number_of from) report a.attempt)) there ∙ why.value_is))
       (later (Accept a.attempt.ballot value)) (vote_put own a.slot a.attempt.ballot value test made_is)
       (sym (at_slot slot (sent_attempt a (number_of from) report value) here))
-      (Contains-here (Accept a.attempt.ballot value) state.sent))
+      (Contains_here (Accept a.attempt.ballot value) state.sent))
   at_sent a _ _ value true test stands (promise_alone one) why made_is =
       let here = eqb-true a.slot slot test in
       let own = sending a 0 None value s.own in
@@ -227,10 +227,10 @@ module _ (cfg : Config) (slot : ℕ) (me : NodeId) (within : number_of me < cfg.
       (subst (λ (k : ℕ). is_majority a.attempt.n (with_heard k None a.attempt).promises ≡ true) (sym first) why.majority)
       (ap (λ (x : AcceptorState Entry). value_to_send x (with_heard i None a.attempt)) there
       ∙ (ap (λ (k : ℕ). value_to_send (acceptor_at s.own a.slot) (with_heard k None a.attempt)) first ∙ why.value_is)))
-      (λ m c. Contains-later (Accept a.attempt.ballot value) m (Promise i a.attempt.ballot (state.acceptors i).accepted ∷ state.sent)
-      (Contains-later (Promise i a.attempt.ballot (state.acceptors i).accepted) m state.sent c)) (vote_put own a.slot a.attempt.ballot value test made_is)
+      (λ m c. Contains_later (Accept a.attempt.ballot value) m (Promise i a.attempt.ballot (state.acceptors i).accepted ∷ state.sent)
+      (Contains_later (Promise i a.attempt.ballot (state.acceptors i).accepted) m state.sent c)) (vote_put own a.slot a.attempt.ballot value test made_is)
       (ap (λ (k : ℕ). Some (with_sending value (with_heard k None a.attempt))) first ∙ sym (at_slot slot (sent_attempt a 0 None value) here))
-      (Contains-here (Accept a.attempt.ballot value) (Promise i a.attempt.ballot (state.acceptors i).accepted ∷ state.sent)))
+      (Contains_here (Accept a.attempt.ballot value) (Promise i a.attempt.ballot (state.acceptors i).accepted ∷ state.sent)))
 
   -- ---- all of them
 

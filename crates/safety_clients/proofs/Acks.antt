@@ -3,10 +3,10 @@ use Rattle.std.proofs.Common.{◌≡◌, ◌⊎◌, ◌∙◌, ℕ, ◌<◌, Lis
 use Rattle.std.specs.Prelude.{IsTrue}
 use Rattle.std.specs.List.{AllByRecursion, cons_option, slice_get}
 use Rattle.std.proofs.lemmas.Option.{same_Some, slice_get-get_or}
-use Rattle.majority.proofs.Lists.{Contains-cases, Contains-here, Contains-later, Contains-none}
-use Rattle.cut_core.proofs.Dense.{slice_get-index_of}
-use Rattle.cut_core.proofs.Finding.{dense-below}
-use Rattle.majority.proofs.Schedules.{Contains-slice_get}
+use Rattle.majority.proofs.Lists.{Contains_cases, Contains_here, Contains_later, Contains_none}
+use Rattle.cut_core.proofs.Dense.{slice_get_index_of}
+use Rattle.cut_core.proofs.Finding.{dense_below}
+use Rattle.majority.proofs.Schedules.{Contains_slice_get}
 use Rattle.msg_wire.specs.Nodes.{is_replica, same_node}
 use Rattle.msg_wire.specs.Valid.{IsValidConfig, IsNodeOf}
 use Rattle.net_model.specs.Pasts.{Past, sent, shown, marks_of}
@@ -44,23 +44,23 @@ confirms_here _ position rec e = absurd (cc)
 confirms_or : (found : Option (ℕ × Record)) (rest : List (ℕ × Record)) (x : ℕ × Record) → Contains (cons_option found rest) x
     → (found ≡ Some x) ⊎ Contains rest x
 confirms_or None rest x there = inr there
-confirms_or (Some y) rest x there = elim (Contains-cases y x rest there) [
+confirms_or (Some y) rest x there = elim (Contains_cases y x rest there) [
   | inl same ↦ inl (ap (λ z. Some z) same)
   | inr later ↦ inr later
 ]
 
 mark_there : (shown : List Mark) (position : ℕ) (rec : Record) → Contains (confirmations shown) (position, rec)
     → Contains shown (marks.Confirm position rec)
-mark_there [] position rec there = absurd (Contains-none (position, rec) there)
+mark_there [] position rec there = absurd (Contains_none (position, rec) there)
 mark_there (mark ∷ rest) position rec there = elim (confirms_or (confirmation_in mark) (confirmations rest) (position, rec) there) [
-  | inl here ↦ subst (λ m. Contains (mark ∷ rest) m) (confirms_here mark position rec here) (Contains-here mark rest)
-  | inr later ↦ Contains-later mark (marks.Confirm position rec) rest (mark_there rest position rec later)
+  | inl here ↦ subst (λ m. Contains (mark ∷ rest) m) (confirms_here mark position rec here) (Contains_here mark rest)
+  | inr later ↦ Contains_later mark (marks.Confirm position rec) rest (mark_there rest position rec later)
 ]
 
 pair_there : (list : List (ℕ × Record)) (i : ℕ) (found : ℕ × Record) (position : ℕ) (rec : Record) → slice_get list i ≡ Some found → found.0 ≡ position
     → found.1 ≡ rec → Contains list (position, rec)
 pair_there list i found position rec at places recs =
-    Contains-slice_get list i (position, rec) (at ∙ (ap (λ p. Some (p, found.1)) places ∙ ap (λ r. Some (position, r)) recs))
+    Contains_slice_get list i (position, rec) (at ∙ (ap (λ p. Some (p, found.1)) places ∙ ap (λ r. Some (position, r)) recs))
 
 module _ (cfg : Config) (valid : IsValidConfig cfg) where
   -- ---- a covered record is confirmed
@@ -74,8 +74,8 @@ module _ (cfg : Config) (valid : IsValidConfig cfg) where
       let rec = records.Data client number r.body in
       let known = known_at cfg node past in
       let dense = ((known_folds_hold cfg past valid run).consistent known (node, begins_itself known)).sound.dense shard in
-      let owner = slice_get-index_of agreed.covered shard r.local position r.place in
-      let covered = dense-below agreed.covered shard r.local position dense owner in
+      let owner = slice_get_index_of agreed.covered shard r.local position r.place in
+      let covered = dense_below agreed.covered shard r.local position dense owner in
       let all = covered_is_confirmed cfg past valid run shard side here in
       let list = confirmations (marks_of node past) in
       let found = get_or list r.local (position, rec) in

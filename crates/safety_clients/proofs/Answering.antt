@@ -9,9 +9,9 @@ use Rattle.fix_ante.specs.Windows.{first_of}
 use Rattle.cut_core.specs.Agreements.{Agreement, agreement_from}
 use Rattle.cut_core.specs.Fold.{applied}
 use Rattle.cut_core.specs.Map.{gone_end, placed}
-use Rattle.cut_core.proofs.AgreeingLemmas.{applied_all-push, covered-applied}
-use Rattle.cut_core.proofs.GoneEnds.{gone_end-applied_all}
-use Rattle.cut_core.proofs.Indices.{index_of-append, option_or-some}
+use Rattle.cut_core.proofs.AgreeingLemmas.{applied_all_push, covered_applied}
+use Rattle.cut_core.proofs.GoneEnds.{gone_end_applied_all}
+use Rattle.cut_core.proofs.Indices.{index_of_append, option_or_some}
 use Rattle.fix_ante.specs.Layout.{index_of}
 use Rattle.msg_wire.specs.Nodes.{number_of, same_node}
 use Rattle.msg_wire.specs.Valid.{IsValidConfig, IsNodeOf}
@@ -151,13 +151,13 @@ module _ (n : Node ReplicaState) (event : Event) where
 
   -- an entry more
   agreed_next : (b : Base) (entry : Entry) → agreed_by (knowing entry b) ≡ applied (agreed_by b) entry
-  agreed_next b entry = applied_all-push (agreement_from (first_of b.cfg.rounds b.cfg.table)) b.known entry
+  agreed_next b entry = applied_all_push (agreement_from (first_of b.cfg.rounds b.cfg.table)) b.known entry
 
   placed_next : (a : Agreement) (entry : Entry) (shard local position : ℕ) → placed a shard local ≡ Some position
       → placed (applied a entry) shard local ≡ Some position
   placed_next a entry shard local position at =
-      let more = covered-applied a entry in
-      ap (λ os. index_of os shard local) more.1 ∙ (index_of-append a.covered more.0 shard local ∙ option_or-some _ _ position at)
+      let more = covered_applied a entry in
+      ap (λ os. index_of os shard local) more.1 ∙ (index_of_append a.covered more.0 shard local ∙ option_or_some _ _ position at)
 
   learned : (s : Node ReplicaState) (entry : Entry) (m : Message) → OfNode s m
       → ClientIsTold (agreed_by (knowing entry s.base)) (number_of s.base.me) s.own.log m.what m.to
@@ -165,7 +165,7 @@ module _ (n : Node ReplicaState) (event : Event) where
       let shard = number_of s.base.me in
       let a = agreed_by s.base in
       subst (λ (b : Agreement). ClientIsTold b shard s.own.log m.what m.to) (sym (agreed_next s.base entry))
-      (told_more a (applied a entry) shard s.own.log s.own.log (λ end at. gone_end-applied_all a (entry ∷ []) shard end at)
+      (told_more a (applied a entry) shard s.own.log s.own.log (λ end at. gone_end_applied_all a (entry ∷ []) shard end at)
       (placed_next a entry shard) (begins_itself s.own.log) m.what m.to is)
 
   grows : (s : Node ReplicaState) (item : Item) (own : ReplicaState) → Stores n event s item own → IsPrefix s.own.log own.log

@@ -4,10 +4,10 @@ use Rattle.std.specs.List.{slice_get}
 use Rattle.std.specs.Option.{option_map, option_map_or}
 use Rattle.std.proofs.lemmas.Bool.{cases_Bool, cond-true, cond-false, both_ways, eq-eqb, and_from, le-leb, ltb-true}
 use Rattle.std.proofs.lemmas.List.Elements.{Contains-append_right}
-use Rattle.majority.proofs.Lists.{Contains-here}
+use Rattle.majority.proofs.Lists.{Contains_here}
 use Rattle.cut_core.specs.Agreements.{Agreement, is_gone}
 use Rattle.cut_core.specs.Map.{gone_end, placed, covered_locals}
-use Rattle.cut_core.proofs.Indices.{index_of-some}
+use Rattle.cut_core.proofs.Indices.{index_of_some}
 use Rattle.msg_wire.specs.Heeded.{is_heeded}
 use Rattle.msg_wire.specs.Nodes.{number_of, is_primary}
 use Rattle.msg_wire.specs.Valid.{IsValidConfig, IsNodeOf}
@@ -112,7 +112,7 @@ module _ (t : Turn ReplicaState) (client first least end : ℕ) where
   Answered u = AnswersIn (me_of t) asker least u.sends
 
   sent_last : (m : Message) → Contains (t.sends ++ m ∷ []) m
-  sent_last m = Contains-append_right t.sends (m ∷ []) m (Contains-here m [])
+  sent_last m = Contains-append_right t.sends (m ∷ []) m (Contains_here m [])
 
   acknowledged : (local position : ℕ) → local_of client least (log_of t) ≡ Some local → placed (agreed t) (shard_of t) local ≡ Some position
       → Answered (acknowledge_number asker least t)
@@ -185,7 +185,7 @@ module _ (cfg : Config) (valid : IsValidConfig cfg) (e : HistoryEntry) (past : P
       let at = least_local client least found.2 whole found.0 found.3 in
       let dense = ((known_folds_hold cfg past valid run.1).consistent known (node, begins_itself known)).sound.dense shard in
       let ends = end_is cfg valid past run.1 known (node, begins_itself known) shard end gone in
-      let place = index_of-some (agreed_at cfg node past).covered shard at.0 dense (omega (arith, at.1, found.1, ends)) in
+      let place = index_of_some (agreed_at cfg node past).covered shard at.0 dense (omega (arith, at.1, found.1, ends)) in
       (at.0, place.0, at.2, place.1)
 
   answers : is_gone (agreed_at cfg node past) shard ≡ true → Answers e shard side client least

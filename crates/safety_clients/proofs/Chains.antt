@@ -4,7 +4,7 @@ use Rattle.std.specs.List.{slice_get}
 use Rattle.std.proofs.lemmas.Bool.{both_ways, cases_lt}
 use Rattle.std.proofs.lemmas.List.{length-append}
 use Rattle.std.proofs.lemmas.Option.{slice_get_within, slice_get-get_or, same_Some}
-use Rattle.fix_ante.proofs.Entries.{slice_get-append_left}
+use Rattle.fix_ante.proofs.Entries.{slice_get_append_left}
 use Rattle.runs.specs.Marks.{IsPrefix}
 use Rattle.runs.specs.Homes.{Home}
 
@@ -72,11 +72,11 @@ next_push P front last x next more i y z here there =
     elim (at_or_end whole x z (suc i) there) [
       | inl among ↦
           let below = slice_get_within whole (suc i) z among in
-          next i y z (sym (slice_get-append_left whole (x ∷ []) i (omega (arith, below))) ∙ here) among
+          next i y z (sym (slice_get_append_left whole (x ∷ []) i (omega (arith, below))) ∙ here) among
       | inr end ↦
           let long = length-append front (last ∷ []) in
           let at : i ≡ length front = omega (arith, end.0, long) in
-          let before : slice_get whole i ≡ Some y = sym (slice_get-append_left whole (x ∷ []) i (omega (arith, end.0))) ∙ here in
+          let before : slice_get whole i ≡ Some y = sym (slice_get_append_left whole (x ∷ []) i (omega (arith, end.0))) ∙ here in
           let is : last ≡ y = same_Some last y (sym (at_end front last) ∙ (ap (slice_get whole) (sym at) ∙ before)) in
           subst (λ w. P w z) is (subst (P last) end.1 more)
     ]

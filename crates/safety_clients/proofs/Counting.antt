@@ -3,7 +3,7 @@ use Rattle.std.proofs.Common.{◌≡◌, ◌∙◌, ℕ, suc, ◌+◌, ◌<◌, 
 use Rattle.std.specs.List.{AllByRecursion, slice_get, cons_option}
 use Rattle.std.proofs.lemmas.Bool.{cases_lt}
 use Rattle.std.proofs.lemmas.Option.{slice_get_within, slice_get-get_or}
-use Rattle.majority.proofs.Lists.{Contains-cases, Contains-here, Contains-later}
+use Rattle.majority.proofs.Lists.{Contains_cases, Contains_here, Contains_later}
 use Rattle.runs.specs.Names.{Record}
 use Rattle.runs.specs.Names.records
 use Rattle.runs.specs.Marks.{number_of_client, numbers_of_client}
@@ -24,7 +24,7 @@ IsClosed first xs = (x y : ℕ) → Contains xs x → first ≤ y → y < x → 
 run_of_closed : (first x : ℕ) (xs : List ℕ) → AllByRecursion (λ y. x < y) xs → first ≤ x → IsClosed first (x ∷ xs) → x ≡ first
 run_of_closed first x xs above from closed = elim (cases_lt first x) [
   | inr at ↦ omega (arith, at, from)
-  | inl past ↦ elim (Contains-cases x first xs (closed x first (Contains-here x xs) (omega arith) past)) [
+  | inl past ↦ elim (Contains_cases x first xs (closed x first (Contains_here x xs) (omega arith) past)) [
     | inl same ↦ same
     | inr later ↦ absurd (omega (arith, past, each_member (λ y. x < y) xs first above later))
   ]
@@ -37,7 +37,7 @@ runs_closed first (x ∷ xs) rises from closed =
     let above : AllByRecursion (λ y. first + 1 ≤ y) xs =
     from_members (λ y. first + 1 ≤ y) xs (λ y there. omega (arith, is, each_member (λ z. x < z) xs y rises.0 there)) in
     let rest : IsClosed (first + 1) xs = λ y z there low below.
-    elim (Contains-cases x z xs (closed y z (Contains-later x y xs there) (omega (arith, low)) below)) [
+    elim (Contains_cases x z xs (closed y z (Contains_later x y xs there) (omega (arith, low)) below)) [
       | inl same ↦ absurd (omega (arith, same, is, low))
       | inr later ↦ later
     ] in

@@ -5,8 +5,8 @@ use Rattle.std.proofs.lemmas.Bool.{cases_lt, both_ways}
 use Rattle.std.proofs.lemmas.List.{length-append}
 use Rattle.std.proofs.lemmas.List.Elements.{Contains-append_right}
 use Rattle.std.proofs.lemmas.Option.{slice_get_within}
-use Rattle.fix_ante.proofs.Entries.{slice_get-append_left}
-use Rattle.majority.proofs.Lists.{Contains-here}
+use Rattle.fix_ante.proofs.Entries.{slice_get_append_left}
+use Rattle.majority.proofs.Lists.{Contains_here}
 use Rattle.cut_core.specs.Map.{covered_locals}
 use Rattle.msg_wire.specs.Nodes.{same_node}
 use Rattle.msg_wire.specs.Valid.{IsValidConfig}
@@ -68,7 +68,7 @@ module _ (cfg : Config) (valid : IsValidConfig cfg) where
       fate_there cfg valid past run.1 client m.earlier.shard m.later.first m.told.message m.told.there m.side m.told.by m.told.to_it
       m.told.says in
       let there : Contains homes m.earlier =
-      subst (λ l. Contains l m.earlier) (sym m.was) (Contains-append_right m.before (m.earlier ∷ []) m.earlier (Contains-here m.earlier [])) in
+      subst (λ l. Contains l m.earlier) (sym m.was) (Contains-append_right m.before (m.earlier ∷ []) m.earlier (Contains_here m.earlier [])) in
       let first = same_first cfg valid past run.1 client (record { shard = m.earlier.shard; first = fate.first }) m.earlier fate.home there refl in
       let known = known_at cfg node past in
       let gone = ended cfg valid past run.1 known (node, begins_itself known) m.earlier.shard m.gone in
@@ -111,7 +111,7 @@ module _ (cfg : Config) (valid : IsValidConfig cfg) where
             let old : Home = record { shard = shard; first = home.0 } in
             let one = member_at homes old home.1 in
             let below = slice_get_within homes one.0 old one.1 in
-            let first = ap (λ l. slice_get l one.0) m.now ∙ (slice_get-append_left homes (m.later ∷ []) one.0 below ∙ one.1) in
+            let first = ap (λ l. slice_get l one.0) m.now ∙ (slice_get_append_left homes (m.later ∷ []) one.0 below ∙ one.1) in
             let last = ap (λ l. slice_get l (length homes)) m.now ∙ at_end homes m.later in
             let same = (homes_are_once cfg (e ∷ past) valid run client).once one.0 (length homes) old m.later first last refl in
             omega (arith, same, below)
@@ -127,7 +127,7 @@ module _ (cfg : Config) (valid : IsValidConfig cfg) where
       elim (cases_lt local (length log)) [
         | inl old ↦
             let grown = (held_grows cfg e past shard valid run).held in
-            let at = sym (slice_get-append_left log grown.0 local old) ∙ (ap (λ l. slice_get l local) (sym grown.1) ∙ has.2) in
+            let at = sym (slice_get_append_left log grown.0 local old) ∙ (ap (λ l. slice_get l local) (sym grown.1) ∙ has.2) in
             before local (has.0, has.1, at)
         | inr new ↦
             let held = (covered_is_common cfg past valid run.1 shard).within in

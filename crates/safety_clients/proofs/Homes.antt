@@ -4,7 +4,7 @@ use Rattle.std.proofs.lemmas.Bool.{cases_Bool, both_ways}
 use Rattle.std.proofs.lemmas.List.Elements.{Contains-append_right}
 use Rattle.std.proofs.lemmas.Option.{same_Some}
 use Rattle.std.specs.List.{slice_get}
-use Rattle.majority.proofs.Lists.{Contains-here}
+use Rattle.majority.proofs.Lists.{Contains_here}
 use Rattle.cut_core.specs.Agreements.{is_gone}
 use Rattle.msg_wire.specs.Valid.{IsValidConfig}
 use Rattle.net_model.specs.Pasts.{Past}
@@ -108,7 +108,7 @@ rising cfg valid =
     (record {
       stays = λ e past client h k run le. le;
       moved = λ e past client run m.
-          let there = subst (λ l. Contains l m.earlier) (sym m.was) (Contains-append_right m.before (m.earlier ∷ []) m.earlier (Contains-here m.earlier [])) in
+          let there = subst (λ l. Contains l m.earlier) (sym m.was) (Contains-append_right m.before (m.earlier ∷ []) m.earlier (Contains_here m.earlier [])) in
           omega (arith, m.acked, are_acked cfg valid past run.1 client m.earlier there);
     })
 

@@ -4,7 +4,7 @@ use Rattle.std.specs.List.{range_with_len, slice_get, cons_option}
 use Rattle.std.proofs.lemmas.Bool.{cases_Bool, cases_lt, cond-true, cond-false, eqb-true}
 use Rattle.std.proofs.lemmas.List.{length-take}
 use Rattle.std.proofs.lemmas.Option.{same_Some, slice_get_within}
-use Rattle.majority.proofs.Lists.{Contains-cases, Contains-here, Contains-later, Contains-none}
+use Rattle.majority.proofs.Lists.{Contains_cases, Contains_here, Contains_later, Contains_none}
 use Rattle.runs.specs.Names.{Record}
 use Rattle.runs.specs.Names.records
 use Rattle.runs.specs.Marks.{number_of_client, numbers_of_client}
@@ -17,15 +17,15 @@ use Rattle.safety_clients.proofs.Runs.{own_number, run_front}
 
 -- one of the numbers is the first record's, or one of the others'
 cons_there : (found : Option ℕ) (rest : List ℕ) (number : ℕ) → found ≡ Some number → Contains (cons_option found rest) number
-cons_there found rest number at = subst (λ o. Contains (cons_option o rest) number) (sym at) (Contains-here number rest)
+cons_there found rest number at = subst (λ o. Contains (cons_option o rest) number) (sym at) (Contains_here number rest)
 
 cons_later : (found : Option ℕ) (rest : List ℕ) (number : ℕ) → Contains rest number → Contains (cons_option found rest) number
 cons_later None rest number there = there
-cons_later (Some k) rest number there = Contains-later k number rest there
+cons_later (Some k) rest number there = Contains_later k number rest there
 
 cons_cases : (found : Option ℕ) (rest : List ℕ) (number : ℕ) → Contains (cons_option found rest) number → (found ≡ Some number) ⊎ Contains rest number
 cons_cases None rest number there = inr there
-cons_cases (Some k) rest number there = elim (Contains-cases k number rest there) [
+cons_cases (Some k) rest number there = elim (Contains_cases k number rest there) [
   | inl same ↦ inl (ap (λ n. Some n) same)
   | inr later ↦ inr later
 ]
@@ -42,7 +42,7 @@ number_there client number body (rec ∷ rest) (suc local) at =
 -- a log with a record of a client has numbers of it
 pub has_number : (client number : ℕ) (body : List ℕ) (log : List Record) (local : ℕ) → slice_get log local ≡ Some (records.Data client number body)
     → numbers_of_client client log ≡ [] → ⊥
-has_number client number body log local at none = Contains-none number (subst (λ l. Contains l number) none (number_there client number body log local at))
+has_number client number body log local at none = Contains_none number (subst (λ l. Contains l number) none (number_there client number body log local at))
 
 -- whose number it is
 pub record_of : (client number : ℕ) (rec : Record) → number_of_client client rec ≡ Some number → (body : List ℕ) × (rec ≡ records.Data client number body)
@@ -57,7 +57,7 @@ record_of client number (records.Data owner own body) at = elim (cases_Bool (own
 -- and each number has its record
 pub record_there : (client number : ℕ) (log : List Record) → Contains (numbers_of_client client log) number
     → (local : ℕ) × (body : List ℕ) × (slice_get log local ≡ Some (records.Data client number body))
-record_there client number [] there = absurd (Contains-none number there)
+record_there client number [] there = absurd (Contains_none number there)
 record_there client number (rec ∷ rest) there = elim (cons_cases (number_of_client client rec) (numbers_of_client client rest) number there) [
   | inl here ↦ let is = record_of client number rec here in (0, is.0, ap (λ r. Some r) is.1)
   | inr later ↦ let found = record_there client number rest later in (suc found.0, found.1, found.2)
@@ -112,10 +112,10 @@ rank_rises client number body (rec ∷ rest) (suc local) (suc later) at less =
 pub range_has : (first count number : ℕ) → first ≤ number → number < first + count → Contains (range_with_len first count) number
 range_has first zero number from below = absurd (omega (arith, from, below))
 range_has first (suc count) number from below = elim (cases_lt first number) [
-  | inl past ↦ Contains-later first number (range_with_len (first + 1) count) (range_has (first + 1) count number (omega (arith, past)) (omega (arith, below)))
+  | inl past ↦ Contains_later first number (range_with_len (first + 1) count) (range_has (first + 1) count number (omega (arith, past)) (omega (arith, below)))
   | inr at ↦
       let same : first ≡ number = omega (arith, at, from) in
-      subst (λ k. Contains (range_with_len first (suc count)) k) same (Contains-here first (range_with_len (first + 1) count))
+      subst (λ k. Contains (range_with_len first (suc count)) k) same (Contains_here first (range_with_len (first + 1) count))
 ]
 
 -- a client's record below a local

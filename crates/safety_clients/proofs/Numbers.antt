@@ -7,12 +7,12 @@ use Rattle.std.proofs.lemmas.Bool.{cases_Bool, cases_lt, cond-true, cond-false, 
 use Rattle.std.proofs.lemmas.List.FromFn.{length-range_with_len}
 use Rattle.std.proofs.lemmas.Option.{same_Some, slice_get_within, slice_get-get_or}
 use Rattle.fix_ante.specs.declared.spots.Owner.{Owner}
-use Rattle.fix_ante.proofs.Entries.{slice_get-append_left}
+use Rattle.fix_ante.proofs.Entries.{slice_get_append_left}
 use Rattle.cut_core.specs.Agreements.{Agreement}
 use Rattle.cut_core.specs.Consistency.{IsContinuedBy}
 use Rattle.cut_core.specs.Map.{rest_of, granted_layout, located, mapped, covered_locals}
-use Rattle.cut_core.proofs.Finding.{dense-found}
-use Rattle.majority.proofs.Schedules.{Contains-slice_get}
+use Rattle.cut_core.proofs.Finding.{dense_found}
+use Rattle.majority.proofs.Schedules.{Contains_slice_get}
 use Rattle.msg_wire.specs.Valid.{IsValidConfig}
 use Rattle.net_model.specs.Pasts.{Past}
 use Rattle.runs.specs.Names.{Config, Record}
@@ -45,7 +45,7 @@ use Rattle.safety_clients.proofs.Homes.{same_first}
 use Rattle.safety_clients.proofs.Records.{held_are_of_a_home}
 
 covered_mapped : (a : Agreement) (p : ℕ) → p < length a.covered → mapped a p ≡ located a p
-covered_mapped a p within = slice_get-append_left a.covered (rest_of a ++ granted_layout a.granted) p within
+covered_mapped a p within = slice_get_append_left a.covered (rest_of a ++ granted_layout a.granted) p within
 
 -- a covered position keeps its owner
 covered_on : (before after : Agreement) → IsContinuedBy before after → (p : ℕ) (o : Owner) → p < length before.covered → located before p ≡ Some o
@@ -106,7 +106,7 @@ module _ (cfg : Config) (valid : IsValidConfig cfg) (past : Past) (run : IsPastO
       let end = end_agreed home later ends in (
         λ number local body at covered.
             let log = held home.shard in
-            let is = number_is client home.first number body log local (home_runs home number local body (Contains-slice_get homes i home here) at) at in
+            let is = number_is client home.first number body log local (home_runs home number local body (Contains_slice_get homes i home here) at) at in
             let rises = rank_rises client number body log local ends.end at (omega (arith, covered, end)) in
             let all = ap length (ends.numbers) ∙ length-range_with_len home.first (later.first - home.first) in
             omega (arith, is, rises, all, ends.rises),
@@ -141,7 +141,7 @@ module _ (cfg : Config) (valid : IsValidConfig cfg) (past : Past) (run : IsPastO
       let gone = ended cfg valid past run front (node, left.at.1) shard left.left in
       let end = end_is cfg valid past run list all shard (covered_locals before shard) (on.gone_stay shard (covered_locals before shard) gone) in
       let dense = ((known_folds_hold cfg past valid run).consistent front (node, left.at.1)).sound.dense shard in
-      let found = dense-found before.covered shard local dense (omega (arith, end, below shard first position local number body x)) in
+      let found = dense_found before.covered shard local dense (omega (arith, end, below shard first position local number body x)) in
       let within = slice_get_within before.covered found.0 _ found.1 in
       let stands = covered_on before agreed on found.0 (record { shard = shard; local = local }) within found.1 in
       let same = placed.placed_once cfg valid past run client shard first local position found.0 x.covered stands in
@@ -202,7 +202,7 @@ module _ (cfg : Config) (valid : IsValidConfig cfg) (past : Past) (run : IsPastO
   stands_there : (shard local number : ℕ) (body : List ℕ) → slice_get (held shard) local ≡ Some (records.Data client number body)
       → local < covered_locals agreed shard → IsCoveredNumber number
   stands_there shard local number body at covered =
-      let found = dense-found agreed.covered shard local ((placed.consistent cfg valid past run client).sound.dense shard) covered in
+      let found = dense_found agreed.covered shard local ((placed.consistent cfg valid past run client).sound.dense shard) covered in
       (found.0, body, record { owner = record { shard = shard; local = local }; covered = found.1; held = at })
 
   below_first : (number i : ℕ) (home : Home) → slice_get homes i ≡ Some home → number < home.first → IsCoveredNumber number

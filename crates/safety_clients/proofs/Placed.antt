@@ -8,8 +8,8 @@ use Rattle.fix_ante.specs.Locals.{locals_of}
 use Rattle.cut_core.specs.Agreements.{Agreement}
 use Rattle.cut_core.specs.Consistency.{IsConsistent}
 use Rattle.cut_core.specs.Map.{located, covered_locals}
-use Rattle.cut_core.proofs.Dense.{range_with_len-head, local_from, index_of-dense}
-use Rattle.cut_core.proofs.Finding.{dense-below}
+use Rattle.cut_core.proofs.Dense.{range_with_len_head, local_from, index_of_dense}
+use Rattle.cut_core.proofs.Finding.{dense_below}
 use Rattle.msg_wire.specs.Valid.{IsValidConfig}
 use Rattle.net_model.specs.Pasts.{Past}
 use Rattle.runs.specs.Names.{Config, Record}
@@ -39,13 +39,13 @@ local_rises (o ∷ os) shard n count i zero local later dense here there less = 
 local_rises (o ∷ os) shard n count zero (suc j) local later dense here there less =
     let same : o.shard ≡ shard = cc in
     let is : o.local ≡ local = cc in
-    let head = range_with_len-head n count o.local (locals_of shard os) (sym (cond-true _ _ _ (eq-eqb o.shard shard same)) ∙ dense) in
+    let head = range_with_len_head n count o.local (locals_of shard os) (sym (cond-true _ _ _ (eq-eqb o.shard shard same)) ∙ dense) in
     let from = local_from os shard later j (n + 1) head.0 head.3 there in
     omega (arith, head.2, is, from)
 local_rises (o ∷ os) shard n count (suc i) (suc j) local later dense here there less =
     elim (cases_Bool (o.shard == shard)) [
       | inl same ↦
-          let head = range_with_len-head n count o.local (locals_of shard os) (sym (cond-true _ _ _ same) ∙ dense) in
+          let head = range_with_len_head n count o.local (locals_of shard os) (sym (cond-true _ _ _ same) ∙ dense) in
           local_rises os shard (n + 1) head.0 i j local later head.3 here there (omega (arith, less))
       | inr other ↦ local_rises os shard n count i j local later (sym (cond-false _ _ _ other) ∙ dense) here there (omega (arith, less))
     ]
@@ -85,7 +85,7 @@ module _ (cfg : Config) (valid : IsValidConfig cfg) (past : Past) (run : IsPastO
   ]
 
   pub below : (shard first position local number : ℕ) (body : List ℕ) → AtHome shard first position local number body → local < covered_locals agreed shard
-  below shard first position local number body x = dense-below agreed.covered shard local position (consistent.sound.dense shard) x.covered
+  below shard first position local number body x = dense_below agreed.covered shard local position (consistent.sound.dense shard) x.covered
 
   pub counts : (shard first position local number : ℕ) (body : List ℕ) → AtHome shard first position local number body
       → number ≡ first + rank client (held shard) local
@@ -98,7 +98,7 @@ module _ (cfg : Config) (valid : IsValidConfig cfg) (past : Past) (run : IsPastO
     placed_once local position place here there =
         let dense = consistent.sound.dense shard in
         same_Some position place
-        (sym (index_of-dense agreed.covered shard local position 0 _ dense here) ∙ index_of-dense agreed.covered shard local place 0 _ dense there)
+        (sym (index_of_dense agreed.covered shard local position 0 _ dense here) ∙ index_of_dense agreed.covered shard local place 0 _ dense there)
 
     sooner : (position local number : ℕ) (body : List ℕ) (place later other : ℕ) (text : List ℕ) → AtHome shard first position local number body
         → AtHome shard first place later other text

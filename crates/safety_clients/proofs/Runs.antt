@@ -5,11 +5,11 @@ use Rattle.std.proofs.lemmas.Bool.{cond-true, cond-false, eq-eqb}
 use Rattle.std.proofs.lemmas.List.{length-append}
 use Rattle.std.proofs.lemmas.List.Elements.{filter_map-append}
 use Rattle.std.proofs.lemmas.Option.{same_Some}
-use Rattle.fix_ante.proofs.LocalLemmas.{range_with_len-append}
+use Rattle.fix_ante.proofs.LocalLemmas.{range_with_len_append}
 use Rattle.shard_log.specs.Records.{number_by}
 use Rattle.shard_log.specs.ShardLog.{numbers_of, expected_of, append_from_log}
 use Rattle.shard_log.specs.Calls.{numbers_from}
-use Rattle.shard_log.proofs.NumberLemmas.{StandFrom, StandFrom-take, StandFrom-append_from}
+use Rattle.shard_log.proofs.NumberLemmas.{StandFrom, StandFrom_take, StandFrom_append_from}
 use Rattle.runs.specs.Names.{Record}
 use Rattle.runs.specs.Names.records
 use Rattle.runs.specs.Marks.{IsPrefix, number_of_client, numbers_of_client}
@@ -53,7 +53,7 @@ run_push client first owner begin number body log is run empty =
     let taken : append_from_log owner begin number body log ≡ more = cond-true _ more log (eq-eqb number (expected_of owner begin log) is) in
     run_of client first more
     (subst (StandFrom client first) taken
-    (StandFrom-append_from client first owner begin number body log (stand client first log run) (λ none same. empty (same_numbers client log ∙ none) same)))
+    (StandFrom_append_from client first owner begin number body log (stand client first log run) (λ none same. empty (same_numbers client log ∙ none) same)))
 
 -- the number of a client's own record
 pub own_number : (client number : ℕ) (body : List ℕ) → number_of_client client (records.Data client number body) ≡ Some number
@@ -66,7 +66,7 @@ numbers_push client number body log =
     ∙ ap (λ o. numbers_of_client client log ++ cons_option o []) (own_number client number body)
 
 range_push : (first count : ℕ) → range_with_len first (count + 1) ≡ range_with_len first count ++ (first + count) ∷ []
-range_push first count = sym (range_with_len-append first count 1)
+range_push first count = sym (range_with_len_append first count 1)
 
 -- the number that a log expects follows those that it has
 pub expected_is : (client first begin : ℕ) (log : List Record) → RunFrom first (numbers_of_client client log)
@@ -86,7 +86,7 @@ expected_is client first begin log run empty =
 
 pub run_front : (client first end : ℕ) (log : List Record) → RunFrom first (numbers_of_client client log)
     → RunFrom first (numbers_of_client client (take end log))
-run_front client first end log run = run_of client first (take end log) (StandFrom-take client first end log (stand client first log run))
+run_front client first end log run = run_of client first (take end log) (StandFrom_take client first end log (stand client first log run))
 
 -- no numbers in a log, none in a beginning of it
 pub none_in_front : (client : ℕ) (front whole : List Record) → IsPrefix front whole → numbers_of_client client whole ≡ [] → numbers_of_client client front ≡ []

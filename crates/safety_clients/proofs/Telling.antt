@@ -3,7 +3,7 @@ use Rattle.std.proofs.Common.{◌≡◌, ◌∙◌, ℕ, ◌+◌, ◌≤◌, tru
 use Rattle.std.specs.Prelude.{IsTrue}
 use Rattle.std.specs.List.{AllByRecursion, filter_map}
 use Rattle.std.proofs.lemmas.List.Elements.{filter_map-append, Contains-append_right}
-use Rattle.majority.proofs.Lists.{Contains-here}
+use Rattle.majority.proofs.Lists.{Contains_here}
 use Rattle.msg_wire.specs.Nodes.{is_client, replicas_of, same_node}
 use Rattle.msg_wire.specs.Valid.{IsValidConfig}
 use Rattle.net_model.specs.Pasts.{Past, sent}
@@ -93,7 +93,7 @@ one_said homes own t to what all said =
 last_there : (homes : List Home) (own : ClientState) → IsLastHome homes own → Contains homes (record { shard = own.home; first = own.first })
 last_there homes own last =
     let home : Home = record { shard = own.home; first = own.first } in
-    subst (λ l. Contains l home) (sym last.1) (Contains-append_right last.0 (home ∷ []) home (Contains-here home []))
+    subst (λ l. Contains l home) (sym last.1) (Contains-append_right last.0 (home ∷ []) home (Contains_here home []))
 
 module _ (n : Node ClientState) (event : Event) (before : List Home) where
   abbrev Homes : List Item → List Home

@@ -7,7 +7,7 @@ use Rattle.std.proofs.lemmas.List.Elements.{filter_map-append, Contains-append_c
 use Rattle.fix_ante.specs.declared.spots.Spot.{Spot}
 use Rattle.fix_ante.specs.Windows.{has_row}
 use Rattle.cut_core.specs.Agreements.{Agreement, is_gone}
-use Rattle.majority.proofs.Lists.{Contains-cases, Contains-none}
+use Rattle.majority.proofs.Lists.{Contains_cases, Contains_none}
 use Rattle.msg_wire.specs.Nodes.{same_node, is_client, is_replica, number_of}
 use Rattle.msg_wire.specs.Valid.{IsValidConfig, IsNodeOf}
 use Rattle.net_model.specs.Pasts.{Past, sent}
@@ -198,17 +198,17 @@ module _ (cfg : Config) (valid : IsValidConfig cfg) where
         | inl same ↦ omega (arith, more, before client home (subst (λ l. Contains l home) same there))
         | inr m ↦ elim (Contains-append_cases (homes_at cfg client past) (m.later ∷ []) home (subst (λ l. Contains l home) m.now there)) [
           | inl old ↦ omega (arith, more, before client home old)
-          | inr new ↦ elim (Contains-cases m.later home [] new) [
+          | inr new ↦ elim (Contains_cases m.later home [] new) [
             | inl is ↦ omega (arith, more, m.acked, ap (λ (h : Home). h.first) is)
-            | inr none ↦ absurd (Contains-none home none)
+            | inr none ↦ absurd (Contains_none home none)
           ]
         ]
       ]
 
   first_acked : AreAcked []
-  first_acked client home there = elim (Contains-cases (given_home cfg client) home [] there) [
+  first_acked client home there = elim (Contains_cases (given_home cfg client) home [] there) [
     | inl is ↦ omega (arith, ap (λ (h : Home). h.first) is)
-    | inr none ↦ absurd (Contains-none home none)
+    | inr none ↦ absurd (Contains_none home none)
   ]
 
   pub are_acked : (past : Past) → IsPastOf cfg past → AreAcked past

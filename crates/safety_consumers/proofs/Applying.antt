@@ -5,7 +5,7 @@ use Rattle.std.proofs.lemmas.List.{length-append}
 use Rattle.std.proofs.lemmas.List.Sums.{fold-append}
 use Rattle.std.proofs.lemmas.Option.{slice_get_within}
 use Rattle.fix_ante.specs.declared.spots.Owner.{Owner}
-use Rattle.fix_ante.proofs.Entries.{slice_get-append_left, slice_get-append_right}
+use Rattle.fix_ante.proofs.Entries.{slice_get_append_left, slice_get_append_right}
 use Rattle.cut_core.specs.declared.effects.Effect.{Effect}
 use Rattle.cut_core.specs.declared.effects.Effect.TheVariants.{Removed}
 use Rattle.cut_core.specs.Effects.{effect_of}
@@ -99,7 +99,7 @@ stands_none log (marks.Apply position rec) none = absurd none
 stands_none log mark none = tt
 
 stands_more : (log : List Record) (rec : Record) (mark : Mark) → Stands log mark → Stands (log ++ rec ∷ []) mark
-stands_more log rec (marks.Apply position other) at = slice_get-append_left log (rec ∷ []) position (slice_get_within log position other at) ∙ at
+stands_more log rec (marks.Apply position other) at = slice_get_append_left log (rec ∷ []) position (slice_get_within log position other at) ∙ at
 stands_more log rec mark at = tt
 
 module _ (shown : List Mark) where
@@ -119,7 +119,7 @@ module _ (shown : List Mark) where
       let same : applied_by (shown ++ (t.marks ++ mark ∷ [])) ≡ log ++ rec ∷ [] = log_more t.marks mark in
       let last : applied t ≡ length log + 0 = omega (arith, is.0) in
       let here : slice_get (log ++ rec ∷ []) (applied t) ≡ Some rec =
-      ap (slice_get (log ++ rec ∷ [])) last ∙ slice_get-append_right log (rec ∷ []) (length log) 0 refl in (
+      ap (slice_get (log ++ rec ∷ [])) last ∙ slice_get_append_right log (rec ∷ []) (length log) 0 refl in (
         omega (arith, ap length same, length-append log (rec ∷ []), is.0, length-append (own_of t).pending (rec ∷ [])),
         subst (λ l. AllByRecursion (Stands l) (t.marks ++ mark ∷ [])) (sym same)
             (all_push (Stands (log ++ rec ∷ [])) t.marks mark

@@ -13,7 +13,7 @@ use Rattle.cut_core.specs.declared.gone.Gone.{Gone}
 use Rattle.cut_core.specs.Agreements.{Agreement, count_of, is_gone}
 use Rattle.cut_core.specs.Consistency.{IsConsistent}
 use Rattle.cut_core.specs.Map.{map_of, mapped, covered_locals, end_among, gone_end}
-use Rattle.cut_core.proofs.Finding.{dense-below, count_of-front}
+use Rattle.cut_core.proofs.Finding.{dense_below, count_of_front}
 use Rattle.msg_wire.specs.Valid.{IsValidConfig, IsNodeOf}
 use Rattle.net_model.specs.Pasts.{Past, SinceRestart}
 use Rattle.node_rules.specs.Names.{Record}
@@ -64,7 +64,7 @@ fewer_before os shard p q before =
     omega (
       arith,
       ap (count_of shard) (take-take p q os before),
-      count_of-front shard front (drop p (take q os)),
+      count_of_front shard front (drop p (take q os)),
       ap (count_of shard) all,
     )
 
@@ -82,7 +82,7 @@ module _ (a : Agreement) (is : IsConsistent a) (o : Owner) (position : ℕ) (own
   past_none (Some end) e past =
       let gone : is_gone a o.shard ≡ true = among_gone a.gone o.shard end e in
       let ends : covered_locals a o.shard ≡ end = same_Some _ _ (sym (is.gone_have_ended o.shard gone) ∙ e) in
-      omega (arith, ends, is.gone_own_covered o.shard gone, dense-below (map_of a) o.shard o.local position (is.dense o.shard) owns, leb-true end o.local past)
+      omega (arith, ends, is.gone_own_covered o.shard gone, dense_below (map_of a) o.shard o.local position (is.dense o.shard) owns, leb-true end o.local past)
 
   -- and not below the floor; so where it is settled it is held
   settled_held : {A : Type 0} (s : ConsumerState A) → IsOwn a s → o.shard < 6 → s.confirmed ≤ position → IsSettled a s o → IsSome (held_of s.lanes o)

@@ -12,7 +12,7 @@ use Rattle.record_codec.specs.declared.record.Record.{Record}
 use Rattle.cut_core.proofs.Parts.{some_value}
 use Rattle.spec_delivery.specs.declared.put.Put.{Put}
 use Rattle.spec_delivery.specs.Lanes.{LaneState, held_at, is_past_end, put_answer, after_put, raised, closed}
-use Rattle.spec_delivery.proofs.LaneLemmas.{all-insert, all-remove}
+use Rattle.spec_delivery.proofs.LaneLemmas.{all_insert, all_remove}
 use Rattle.consumer_node.specs.Sound.{IsLane}
 use Rattle.consumer_node.proofs.Closings.{ended}
 use Rattle.consumer_node.proofs.Entries.{Entries, at, local_itself, other_local, all_filter}
@@ -34,7 +34,7 @@ was_there (Some x) after stays some = refl
 none_removed : (k local : ℕ) (es : Entries) → at local es ≡ None → at local (remove_entry (eq_by_cmp nat_cmp k) es) ≡ None
 none_removed k local es none =
     lookup-none (eq_by_cmp nat_cmp local) (remove_entry (eq_by_cmp nat_cmp k) es)
-    (all-remove (λ n. eq_by_cmp nat_cmp local n ≡ false) (eq_by_cmp nat_cmp k) es (none_passes_from_lookup (eq_by_cmp nat_cmp local) es none))
+    (all_remove (λ n. eq_by_cmp nat_cmp local n ≡ false) (eq_by_cmp nat_cmp k) es (none_passes_from_lookup (eq_by_cmp nat_cmp local) es none))
 
 none_filtered : (end local : ℕ) (es : Entries) → at local es ≡ None → at local (filter (λ e. nat_lt e.0 end) es) ≡ None
 none_filtered end local es none =
@@ -44,7 +44,7 @@ none_filtered end local es none =
 none_inserted : (k local : ℕ) (r : Record) (es : Entries) → (k ≡ local → ⊥) → at local es ≡ None → at local (insert_entry nat_cmp es k r) ≡ None
 none_inserted k local r es apart none =
     lookup-none (eq_by_cmp nat_cmp local) (insert_entry nat_cmp es k r)
-    (all-insert (λ n. eq_by_cmp nat_cmp local n ≡ false) es k r (none_passes_from_lookup (eq_by_cmp nat_cmp local) es none)
+    (all_insert (λ n. eq_by_cmp nat_cmp local n ≡ false) es k r (none_passes_from_lookup (eq_by_cmp nat_cmp local) es none)
     (other_local local k (λ same. apart (sym same))))
 
 some_or : (b : Bool) (r : Record) (rest : Option Record) → IsSome rest → IsSome (cond b (Some r) rest)

@@ -6,8 +6,8 @@ use Rattle.fix_ante.specs.declared.spots.Owner.{Owner}
 use Rattle.cut_core.specs.Agreements.{Agreement, agreement_from, count_of}
 use Rattle.cut_core.specs.Fold.{applied}
 use Rattle.cut_core.specs.Map.{gone_end}
-use Rattle.cut_core.proofs.AgreeingLemmas.{applied_all-push}
-use Rattle.cut_core.proofs.GoneEnds.{gone_end-applied_all}
+use Rattle.cut_core.proofs.AgreeingLemmas.{applied_all_push}
+use Rattle.cut_core.proofs.GoneEnds.{gone_end_applied_all}
 use Rattle.spec_delivery.specs.Lanes.{LaneState, is_past_end, fresh_lane, after_put, raised}
 use Rattle.spec_delivery.specs.Buffers.{lane_of, answer_to, with_record}
 use Rattle.msg_wire.specs.Heeded.{is_heeded}
@@ -42,7 +42,7 @@ past_stays : (a : Agreement) (entry : Entry) (shard local : ℕ) (end : Option �
     → is_past_end (gone_end (applied a entry) shard) local ≡ true
 past_stays a entry shard local None e past = absurd (cc)
 past_stays a entry shard local (Some end) e past =
-    subst (λ (o : Option ℕ). is_past_end o local ≡ true) (sym (gone_end-applied_all a (entry ∷ []) shard end e)) past
+    subst (λ (o : Option ℕ). is_past_end o local ≡ true) (sym (gone_end_applied_all a (entry ∷ []) shard end e)) past
 
 settled_learned : (a : Agreement) (entry : Entry) (lane : LaneState) (shard local : ℕ) → IsSettledAt (gone_end a shard) lane local
     → IsSettledAt (gone_end (applied a entry) shard) lane local
@@ -83,7 +83,7 @@ module _ {A : Type 0} (app : Meaning A) (n : Node (ConsumerState A)) (event : Ev
               (settled_put end (lane_of lanes shard) o.local local rec) o.shard w.1;
           learns = λ t entry told w.
               subst (λ (a : Agreement). IsSettled a (own_of t) o)
-              (sym (applied_all-push (agreement_from (first_window t.state.base.cfg)) t.state.base.known entry))
+              (sym (applied_all_push (agreement_from (first_window t.state.base.cfg)) t.state.base.known entry))
               (settled_learned (agreed t) entry (lane_of (own_of t).lanes o.shard) o.shard o.local w.1);
           notices = λ t shard first w. w.1;
           undoes = λ t first past w. w.1;

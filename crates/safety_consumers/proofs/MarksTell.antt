@@ -4,7 +4,7 @@ use Rattle.std.specs.List.{AllByRecursion}
 use Rattle.std.proofs.lemmas.Bool.{cases_lt}
 use Rattle.std.proofs.lemmas.List.Elements.{filter_map-append}
 use Rattle.std.proofs.lemmas.Option.{slice_get_within}
-use Rattle.fix_ante.proofs.Entries.{slice_get-append_left}
+use Rattle.fix_ante.proofs.Entries.{slice_get_append_left}
 use Rattle.cut_core.specs.Agreements.{Agreement}
 use Rattle.msg_wire.specs.Valid.{IsValidConfig}
 use Rattle.net_model.specs.Pasts.{Past, marks_of}
@@ -72,7 +72,7 @@ module _ (cfg : Config) (valid : IsValidConfig cfg) where
       elim (cases_lt position (length list)) [
         | inl below ↦
             subst Owned
-            (sym (slice_get-append_left list (consumer_after cfg consumer past).own.pending position below)
+            (sym (slice_get_append_left list (consumer_after cfg consumer past).own.pending position below)
             ∙ (ap (λ l. slice_get l position) (sym is.applied) ∙ at)) (confirmed_is_the_prefix cfg past valid run consumer position below)
         | inr above ↦
             subst Owned at

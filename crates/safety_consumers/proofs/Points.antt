@@ -6,7 +6,7 @@ use Rattle.std.proofs.Math.Seq.{take-append_seam, get_or-append_seam}
 use Rattle.app_law.specs.declared.any_app.AnyApp.{AnyApp}
 use Rattle.app_law.specs.AnyApps.{any_fresh, any_next, any_output}
 use Rattle.app_law.specs.Folds.{fold_of, outputs_of}
-use Rattle.app_law.proofs.Folds.{fold_of-append}
+use Rattle.app_law.proofs.Folds.{fold_of_append}
 use Rattle.msg_wire.specs.Valid.{IsValidConfig}
 use Rattle.net_model.specs.Pasts.{Past, marks_of}
 use Rattle.runs.specs.Names.{Config, Record}
@@ -55,7 +55,7 @@ module _ {X : Type 0} (f : AnyApp → Record → X) (fresh : AnyApp) where
       ap (λ l. f (fold_of any_next fresh l) (get_or log (length front) records.Noop)) (take-append_seam front (rec ∷ back))
       ∙ ap (f state) (get_or-append_seam front rec back records.Noop) in
       let later : each_from f (any_next state rec) back ≡ map (at log) (range_with_len (length front + 1) (length back)) =
-      ap (λ (s : AnyApp). each_from f s back) (sym (fold_of-append any_next fresh front (rec ∷ [])))
+      ap (λ (s : AnyApp). each_from f s back) (sym (fold_of_append any_next fresh front (rec ∷ [])))
       ∙ (each_at more back
       ∙ (ap (λ l. map (at l) (range_with_len (length more) (length back))) (append_assoc front (rec ∷ []) back)
       ∙ ap (λ k. map (at log) (range_with_len k (length back))) long)) in
@@ -84,7 +84,7 @@ module _ (cfg : Config) (valid : IsValidConfig cfg) (past : Past) (run : IsPastO
       let own = (consumer_after cfg consumer past).own in
       let is = tells cfg valid past run consumer in
       ap (λ (s : AnyApp). fold_of any_next s own.pending) is.after_all
-      ∙ (sym (fold_of-append any_next (any_fresh cfg.app) (confirmed_list consumer past) own.pending)
+      ∙ (sym (fold_of_append any_next (any_fresh cfg.app) (confirmed_list consumer past) own.pending)
       ∙ ap (fold_of any_next (any_fresh cfg.app)) (sym is.applied))
 
 pub points_are_positions : OfEveryRun PointsArePositions

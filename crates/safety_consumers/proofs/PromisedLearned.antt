@@ -14,9 +14,9 @@ use Rattle.cut_core.specs.Fold.{after_entry, unless_void, applied}
 use Rattle.cut_core.specs.Map.{map_of, mapped, located, leased, covered_locals}
 use Rattle.cut_core.specs.MapsAgree.{IsBelowFirst}
 use Rattle.cut_core.specs.Reasons.{fault_of}
-use Rattle.cut_core.proofs.AgreeingLemmas.{mapped-applied, located-applied_all, applied_all-push}
-use Rattle.cut_core.proofs.Finding.{dense-found}
-use Rattle.cut_core.proofs.Parts.{some_value, mapped-covered}
+use Rattle.cut_core.proofs.AgreeingLemmas.{mapped_applied, located_applied_all, applied_all_push}
+use Rattle.cut_core.proofs.Finding.{dense_found}
+use Rattle.cut_core.proofs.Parts.{some_value, mapped_covered}
 use Rattle.msg_wire.specs.Nodes.{number_of}
 use Rattle.msg_wire.specs.Valid.{IsValidEvent}
 use Rattle.node_rules.specs.Names.{NodeId, Entry, Event}
@@ -77,17 +77,17 @@ module _ (a : Agreement) (entry : Entry) (shard : ℕ) (is : IsConsistent a) (ne
       let was = some_value (leased a shard local) ((is.leases shard local).1 within) in
       let at = (is.places shard local was.0).0 was.1 in
       let inside = slice_get_within (map_of a) was.0 (owner local) at in
-      lease_back local was.0 position at (mapped-applied a entry was.0 is.sound inside (below was.0)) lease
+      lease_back local was.0 position at (mapped_applied a entry was.0 is.sound inside (below was.0)) lease
 
   -- of a covered local
   covered_lease : (local position : ℕ) → local < covered_locals a shard → leased (applied a entry) shard local ≡ Some position
       → leased a shard local ≡ Some position
   covered_lease local position within lease =
-      let was = dense-found a.covered shard local (is.sound.dense shard) within in
+      let was = dense_found a.covered shard local (is.sound.dense shard) within in
       let inside = slice_get_within a.covered was.0 (owner local) was.1 in
-      let stays = located-applied_all a (entry ∷ []) was.0 inside in
-      let before : mapped a was.0 ≡ located a was.0 = mapped-covered a was.0 inside in
-      let after : mapped (applied a entry) was.0 ≡ located (applied a entry) was.0 = mapped-covered (applied a entry) was.0 stays.0 in
+      let stays = located_applied_all a (entry ∷ []) was.0 inside in
+      let before : mapped a was.0 ≡ located a was.0 = mapped_covered a was.0 inside in
+      let after : mapped (applied a entry) was.0 ≡ located (applied a entry) was.0 = mapped_covered (applied a entry) was.0 stays.0 in
       lease_back local was.0 position (before ∙ was.1) (after ∙ (stays.1 ∙ sym before)) lease
 
 -- ---- what a step has promised before it promises on
@@ -166,7 +166,7 @@ module _ (n : Node ReplicaState) where
         let here : IsTold n event n entry =
         record { from = from; count = count; comes = subst (λ (k : ℕ). Comes n event from (whats.Decided k count entry)) (eqb-true _ _ is_next) comes } in
         let fits = told_valid n event n entry here valid in
-        let more = applied_all-push (agreement_from (first_of n.base.cfg.rounds n.base.cfg.table)) n.base.known entry in
+        let more = applied_all_push (agreement_from (first_of n.base.cfg.rounds n.base.cfg.table)) n.base.known entry in
         after_learned entry (learned entry u)
         (record {
           next = subst IsConsistent more (base_consistent (knowing entry n.base) (base_knowing entry n.base fits.0 fits.1 base));

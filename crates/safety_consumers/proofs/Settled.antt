@@ -4,10 +4,10 @@ use Rattle.std.proofs.Common.{map, length, slice_get, Some, option_map, sym, ap,
 use Rattle.std.specs.List.{range_with_len}
 use Rattle.std.proofs.lemmas.Bool.{false≢true}
 use Rattle.std.proofs.lemmas.Option.{slice_get-map}
-use Rattle.fix_ante.proofs.Entries.{slice_get-append_right}
+use Rattle.fix_ante.proofs.Entries.{slice_get_append_right}
 use Rattle.cut_core.specs.Agreements.{Agreement}
 use Rattle.cut_core.specs.Map.{mapped}
-use Rattle.cut_core.proofs.Dense.{range_with_len-head}
+use Rattle.cut_core.proofs.Dense.{range_with_len_head}
 use Rattle.msg_wire.specs.Heeded.{goes_between}
 use Rattle.msg_wire.specs.Nodes.{number_of}
 use Rattle.msg_wire.specs.Valid.{IsValidConfig}
@@ -112,11 +112,11 @@ counted_at : (confirmed : List (ℕ × Record)) (from count i : ℕ) (c : ℕ ×
     → slice_get confirmed i ≡ Some c → c.0 ≡ from + i
 counted_at [] from count i c counted at = absurd (cc)
 counted_at (x ∷ confirmed) from count zero c counted at =
-    let head = range_with_len-head from count x.0 (map (λ x. x.0) confirmed) counted in
+    let head = range_with_len_head from count x.0 (map (λ x. x.0) confirmed) counted in
     let same : x ≡ c = cc in
     omega (arith, head.2, ap (λ (y : ℕ × Record). y.0) same)
 counted_at (x ∷ confirmed) from count (suc i) c counted at =
-    let head = range_with_len-head from count x.0 (map (λ x. x.0) confirmed) counted in
+    let head = range_with_len_head from count x.0 (map (λ x. x.0) confirmed) counted in
     omega (arith, counted_at confirmed (from + 1) head.0 i c head.3 at)
 
 -- so the record of each is that of its position's owner
@@ -139,7 +139,7 @@ owned_beyond logs a s log first i position own held is long place below =
     let o = at.owner in
     let there : slice_get log position ≡ Some at.rec =
     ap (λ l. slice_get l position) is
-    ∙ (ap (slice_get (first ++ s.pending)) place ∙ (slice_get-append_right first s.pending s.confirmed i long ∙ at.applied)) in
+    ∙ (ap (slice_get (first ++ s.pending)) place ∙ (slice_get_append_right first s.pending s.confirmed i long ∙ at.applied)) in
     record { owner = o; there = ap (mapped a) place ∙ at.position; stands = held_stands logs s.lanes o.shard o.local at.rec held at.held ∙ sym there }
 
 pub held_is_true : OfEveryRun HeldIsTrue

@@ -6,12 +6,12 @@ use Rattle.std.proofs.lemmas.List.{length-append}
 use Rattle.std.proofs.lemmas.List.Elements.{filter_map-append}
 use Rattle.std.proofs.lemmas.Option.{slice_get_within}
 use Rattle.fix_ante.specs.declared.spots.Owner.{Owner}
-use Rattle.fix_ante.proofs.Entries.{slice_get-append_left}
+use Rattle.fix_ante.proofs.Entries.{slice_get_append_left}
 use Rattle.cut_core.specs.Agreements.{Agreement, agreement_from}
 use Rattle.cut_core.specs.Fold.{applied}
 use Rattle.cut_core.specs.Map.{mapped}
-use Rattle.cut_core.proofs.AgreeingLemmas.{covered-applied, applied_all-push}
-use Rattle.cut_core.proofs.Parts.{mapped-covered}
+use Rattle.cut_core.proofs.AgreeingLemmas.{covered_applied, applied_all_push}
+use Rattle.cut_core.proofs.Parts.{mapped_covered}
 use Rattle.msg_wire.specs.Nodes.{number_of}
 use Rattle.msg_wire.specs.Valid.{IsValidEvent}
 use Rattle.app_law.specs.declared.any_app.AnyApp.{AnyApp}
@@ -59,17 +59,17 @@ settled_grown logs more a position rec grow is =
 settled_applied : (logs : ℕ → List Record) (a : Agreement) (entry : Entry) (position : ℕ) (rec : Record) → IsSettled logs a position rec
     → IsSettled logs (applied a entry) position rec
 settled_applied logs a entry position rec is =
-    let more = covered-applied a entry in
+    let more = covered_applied a entry in
     let within : position < length (applied a entry).covered = omega (arith, is.covered, ap length more.1, length-append a.covered more.0) in
     let same : mapped (applied a entry) position ≡ mapped a position =
-    mapped-covered (applied a entry) position within
-    ∙ (ap (λ l. slice_get l position) more.1 ∙ (slice_get-append_left a.covered more.0 position is.covered ∙ sym (mapped-covered a position is.covered))) in
+    mapped_covered (applied a entry) position within
+    ∙ (ap (λ l. slice_get l position) more.1 ∙ (slice_get_append_left a.covered more.0 position is.covered ∙ sym (mapped_covered a position is.covered))) in
     record { covered = within; owned = record { owner = is.owned.owner; there = same ∙ is.owned.there; stands = is.owned.stands } }
 
 settled_known : (logs : ℕ → List Record) (b : Base) (entry : Entry) (confirmed : List (ℕ × Record)) → AreSettled logs (agreed_by b) confirmed
     → AreSettled logs (agreed_by (knowing entry b)) confirmed
 settled_known logs b entry confirmed are =
-    subst (λ (a : Agreement). AreSettled logs a confirmed) (sym (applied_all-push (agreement_from (first_window b.cfg)) b.known entry))
+    subst (λ (a : Agreement). AreSettled logs a confirmed) (sym (applied_all_push (agreement_from (first_window b.cfg)) b.known entry))
     (all_weaken (λ (c : ℕ × Record). IsSettled logs (agreed_by b) c.0 c.1) (λ c. IsSettled logs (applied (agreed_by b) entry) c.0 c.1) confirmed
     (λ c is. settled_applied logs (agreed_by b) entry c.0 c.1 is) are)
 
@@ -99,7 +99,7 @@ module _ (logs : ℕ → List Record) (shown : List Mark) (n : Consumer) (event 
     oldest_settled s rec o why own are =
         let a = agreed_by s.base in
         let within : s.own.confirmed < length a.covered = slice_get_within a.covered s.own.confirmed o why.here in
-        let there : mapped a s.own.confirmed ≡ Some o = mapped-covered a s.own.confirmed within ∙ why.here in
+        let there : mapped a s.own.confirmed ≡ Some o = mapped_covered a s.own.confirmed within ∙ why.here in
         let at : s.own.confirmed + 0 ≡ s.own.confirmed = omega arith in
         let held : held_of s.own.lanes o ≡ Some rec =
         sym (ap (option_and_then (held_of s.own.lanes)) there)

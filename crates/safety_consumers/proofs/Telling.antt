@@ -8,11 +8,11 @@ use Rattle.std.proofs.lemmas.List.FromFn.{length-range_with_len}
 use Rattle.std.proofs.lemmas.List.Folds.{concat-append}
 use Rattle.std.proofs.lemmas.List.Sums.{fold-append}
 use Rattle.std.proofs.Math.Seq.{take-append_seam, take-append-add}
-use Rattle.fix_ante.proofs.LocalLemmas.{range_with_len-append}
+use Rattle.fix_ante.proofs.LocalLemmas.{range_with_len_append}
 use Rattle.app_law.specs.declared.any_app.AnyApp.{AnyApp}
 use Rattle.app_law.specs.AnyApps.{any_fresh, any_next, any_output}
 use Rattle.app_law.specs.Folds.{fold_of}
-use Rattle.app_law.proofs.Folds.{fold_of-append}
+use Rattle.app_law.proofs.Folds.{fold_of_append}
 use Rattle.node_rules.specs.Names.{AppKind, Record, Entry, Item, Mark}
 use Rattle.node_rules.specs.Names.items
 use Rattle.node_rules.specs.Names.marks
@@ -165,7 +165,7 @@ module _ {kind : AppKind} {shown : List Mark} {stored : List Item} {confirmed : 
             ap (map (λ c. c.0)) more
             ∙ (map-append (λ c. c.0) (confirmations shown) ((confirmed, rec) ∷ [])
             ∙ (ap (λ l. l ++ confirmed ∷ []) is.counted
-            ∙ (ap (λ k. range_with_len 0 confirmed ++ k ∷ []) next ∙ range_with_len-append 0 confirmed 1)));
+            ∙ (ap (λ k. range_with_len 0 confirmed ++ k ∷ []) next ∙ range_with_len_append 0 confirmed 1)));
         applied =
             fold-append after_mark [] shown (mark ∷ [])
             ∙ (is.applied
@@ -174,7 +174,7 @@ module _ {kind : AppKind} {shown : List Mark} {stored : List Item} {confirmed : 
         at_end = each_push IsApplyAtEnd [] shown mark is.at_end tt;
         after_all =
             ap (λ (s : AnyApp). any_next s rec) is.after_all
-            ∙ (sym (fold_of-append any_next (any_fresh kind) log (rec ∷ [])) ∙ ap (fold_of any_next (any_fresh kind)) (sym list));
+            ∙ (sym (fold_of_append any_next (any_fresh kind) log (rec ∷ [])) ∙ ap (fold_of any_next (any_fresh kind)) (sym list));
         kept =
             ap (map (λ c. c.0)) keeps
             ∙ (map-append (λ c. c.0) (kept_confirmations stored) ((rec, output) ∷ []) ∙ (ap (λ l. l ++ rec ∷ []) is.kept ∙ sym list));

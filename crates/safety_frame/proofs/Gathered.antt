@@ -1,7 +1,7 @@
 -- Items and marks of one node are among those of all, and those of all are a node's.
 use Rattle.std.proofs.Common.{◌≡◌, ◌⊎◌, Bool, true, false, List, [], ◌∷◌, map, Contains, refl, sym, subst, inl, inr, arith, if◌then◌else◌}
 use Rattle.std.proofs.lemmas.List.Elements.{Contains-append_left, Contains-append_right, Contains-append_cases}
-use Rattle.majority.proofs.Lists.{Contains-cases, Contains-here, Contains-later}
+use Rattle.majority.proofs.Lists.{Contains_cases, Contains_here, Contains_later}
 use Rattle.msg_wire.specs.Nodes.{same_node}
 use Rattle.net_model.specs.Pasts.{Past, marks_of, marks_at, shown}
 use Rattle.runs.specs.Names.{NodeId, Config, Entry, Item, Mark, HistoryEntry}
@@ -18,16 +18,16 @@ use Rattle.safety_frame.proofs.Inductions.{Gathers}
 
 pub member_mapped : {A B : Type 0} (f : A → B) (xs : List A) (x : A) → Contains xs x → Contains (map f xs) (f x)
 member_mapped f [] x c = absurd (omega (arith, c.1))
-member_mapped f (y ∷ xs) x c = elim (Contains-cases y x xs c) [
-  | inl same ↦ subst (λ z. Contains (f y ∷ map f xs) (f z)) same (Contains-here (f y) (map f xs))
-  | inr later ↦ Contains-later (f y) (f x) (map f xs) (member_mapped f xs x later)
+member_mapped f (y ∷ xs) x c = elim (Contains_cases y x xs c) [
+  | inl same ↦ subst (λ z. Contains (f y ∷ map f xs) (f z)) same (Contains_here (f y) (map f xs))
+  | inr later ↦ Contains_later (f y) (f x) (map f xs) (member_mapped f xs x later)
 ]
 
 pub mapped_member : {A B : Type 0} (f : A → B) (xs : List A) (y : B) → Contains (map f xs) y → (x : A) × Contains xs x × (f x ≡ y)
 mapped_member f [] y c = absurd (omega (arith, c.1))
-mapped_member f (x ∷ xs) y c = elim (Contains-cases (f x) y (map f xs) c) [
-  | inl same ↦ (x, Contains-here x xs, same)
-  | inr later ↦ let found = mapped_member f xs y later in (found.0, Contains-later x found.0 xs found.1, found.2)
+mapped_member f (x ∷ xs) y c = elim (Contains_cases (f x) y (map f xs) c) [
+  | inl same ↦ (x, Contains_here x xs, same)
+  | inr later ↦ let found = mapped_member f xs y later in (found.0, Contains_later x found.0 xs found.1, found.2)
 ]
 
 -- ---- items

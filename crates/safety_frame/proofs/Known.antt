@@ -11,9 +11,9 @@ use Rattle.cut_core.specs.Soundness.{IsSound}
 use Rattle.cut_core.specs.Consistency.{IsConsistent, IsContinuedBy}
 use Rattle.cut_core.specs.Map.{map_of}
 use Rattle.cut_core.specs.MapsAgree.{IsBelowFirsts}
-use Rattle.cut_core.proofs.Sound.{IsSound-fold_of}
-use Rattle.cut_core.proofs.Consistent.{IsConsistent-fold_of, IsContinuedBy-applied_all}
-use Rattle.cut_core.proofs.AgreeingLemmas.{mapped-applied_all, slots-applied_all}
+use Rattle.cut_core.proofs.Sound.{IsSound_fold_of}
+use Rattle.cut_core.proofs.Consistent.{IsConsistent_fold_of, IsContinuedBy_applied_all}
+use Rattle.cut_core.proofs.AgreeingLemmas.{mapped_applied_all, slots_applied_all}
 use Rattle.msg_wire.specs.Nodes.{same_node}
 use Rattle.msg_wire.specs.Valid.{IsValidConfig, IsNodeOf}
 use Rattle.net_model.specs.Pasts.{Past}
@@ -94,24 +94,24 @@ applied_more a (x ∷ xs) ys = applied_more (applied a x) xs ys
 
 module _ (cfg : Config) (valid : IsValidConfig cfg) where
   fold_sound : (known : List Entry) → IsKnownList known → IsSound (agreed_after cfg known)
-  fold_sound known is = IsSound-fold_of cfg.rounds cfg.table known valid.rounds.0 valid.rounds.1 valid.rows.table is.few (all_foldable known is.valid)
+  fold_sound known is = IsSound_fold_of cfg.rounds cfg.table known valid.rounds.0 valid.rounds.1 valid.rows.table is.few (all_foldable known is.valid)
 
   fold_consistent : (known : List Entry) → IsKnownList known → IsConsistent (agreed_after cfg known)
-  fold_consistent known is = IsConsistent-fold_of cfg.rounds cfg.table known valid.rounds.0 valid.rounds.1 valid.rows.table is.few (all_foldable known is.valid)
+  fold_consistent known is = IsConsistent_fold_of cfg.rounds cfg.table known valid.rounds.0 valid.rounds.1 valid.rows.table is.few (all_foldable known is.valid)
 
   continued : (known more : List Entry) → IsKnownList (known ++ more) → IsContinuedBy (agreed_after cfg known) (agreed_after cfg (known ++ more))
   continued known more is =
       subst (IsContinuedBy (agreed_after cfg known)) (sym (applied_more (agreement_from (first_of cfg.rounds cfg.table)) known more))
-      (IsContinuedBy-applied_all (agreed_after cfg known) more (fold_sound known (front_sound known more is)))
+      (IsContinuedBy_applied_all (agreed_after cfg known) more (fold_sound known (front_sound known more is)))
 
   agree : (known more : List Entry) (position : ℕ) → IsKnownList (known ++ more) → position < length (map_of (agreed_after cfg known))
       → IsBelowFirsts (agreed_after cfg known) more position
       → AgreeAt (agreed_after cfg known) (agreed_after cfg (known ++ more)) position
   agree known more position is within below =
       let first : Agreement = agreement_from (first_of cfg.rounds cfg.table) in
-      let slots = slots-applied_all first known in
+      let slots = slots_applied_all first known in
       let same =
-      mapped-applied_all (agreed_after cfg known) more position (fold_sound known (front_sound known more is))
+      mapped_applied_all (agreed_after cfg known) more position (fold_sound known (front_sound known more is))
       (omega (arith, slots, is.few, length-append known more))
       (all_back HasValidTable known more (all_foldable (known ++ more) is.valid)) within below in
       subst (λ (a : Agreement). AgreeAt (agreed_after cfg known) a position) (sym (applied_more first known more))

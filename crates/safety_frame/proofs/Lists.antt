@@ -4,8 +4,8 @@ use Rattle.std.specs.List.{AllByRecursion, slice_get}
 use Rattle.std.proofs.lemmas.List.{length-append}
 use Rattle.std.proofs.lemmas.List.Elements.{All-contains, All-from_recursion, Contains-append_left}
 use Rattle.std.proofs.lemmas.Option.{slice_get_within}
-use Rattle.fix_ante.proofs.Entries.{slice_get-append_left}
-use Rattle.majority.proofs.Lists.{Contains-here, Contains-later}
+use Rattle.fix_ante.proofs.Entries.{slice_get_append_left}
+use Rattle.majority.proofs.Lists.{Contains_here, Contains_later}
 use Rattle.runs.specs.Marks.{IsPrefix, EachAfter}
 
 -- ---- beginnings
@@ -32,7 +32,7 @@ member_stays xs ys x p c = subst (λ l. Contains l x) (sym p.1) (Contains-append
 
 pub index_stays : {A : Type 0} (xs ys : List A) (i : ℕ) (x : A) → IsPrefix xs ys → slice_get xs i ≡ Some x → slice_get ys i ≡ Some x
 index_stays xs ys i x p at =
-    ap (λ l. slice_get l i) p.1 ∙ (slice_get-append_left xs p.0 i (slice_get_within xs i x at) ∙ at)
+    ap (λ l. slice_get l i) p.1 ∙ (slice_get_append_left xs p.0 i (slice_get_within xs i x at) ∙ at)
 
 -- ---- members of all
 
@@ -41,7 +41,7 @@ each_member P xs x all c = All-contains P xs x (All-from_recursion P xs all) c
 
 pub from_members : {A : Type 0} (P : A → Type 0) (xs : List A) → ((x : A) → Contains xs x → P x) → AllByRecursion P xs
 from_members P [] each = tt
-from_members P (x ∷ xs) each = (each x (Contains-here x xs), from_members P xs (λ y c. each y (Contains-later x y xs c)))
+from_members P (x ∷ xs) each = (each x (Contains_here x xs), from_members P xs (λ y c. each y (Contains_later x y xs c)))
 
 pub all_true : {A : Type 0} (P : A → Type 0) (xs : List A) → ((x : A) → P x) → AllByRecursion P xs
 all_true P [] each = tt

@@ -3,7 +3,7 @@ use Rattle.std.proofs.Common.{◌≡◌, ◌∙◌, ℕ, Bool, true, false, List
 use Rattle.std.specs.Prelude.{IsTrue, if◌then◌else◌, Contains}
 use Rattle.std.proofs.lemmas.List.Elements.{filter_map-append}
 use Rattle.std.proofs.lemmas.Grind.{flat_map-append}
-use Rattle.majority.proofs.Lists.{Contains-none}
+use Rattle.majority.proofs.Lists.{Contains_none}
 use Rattle.msg_wire.specs.Nodes.{same_node, is_sequencer, is_replica, is_client, is_consumer}
 use Rattle.msg_wire.specs.Valid.{IsValidConfig, IsNodeOf}
 use Rattle.net_model.specs.Pasts.{Past, marks_of, submissions_of, body_in}
@@ -107,7 +107,7 @@ no_items cfg (nodes.Consumer n) = refl
 
 -- a node that has stored an item is one of the cluster
 pub stores_within : (cfg : Config) (node : NodeId) (item : Item) (past : Past) → IsPastOf cfg past → Contains (items_at cfg node past) item → IsNodeOf cfg node
-stores_within cfg node item [] run there = absurd (Contains-none item (subst (λ l. Contains l item) (no_items cfg node) there))
+stores_within cfg node item [] run there = absurd (Contains_none item (subst (λ l. Contains l item) (no_items cfg node) there))
 stores_within cfg node item (e ∷ past) run there =
     on_own (same_node e.node node) (λ own. subst (IsNodeOf cfg) (same_node_is e.node node own) run.0.within)
     (λ other. stores_within cfg node item past run.1 (subst (λ l. Contains l item) (other_stored cfg node e past other) there))

@@ -7,7 +7,7 @@ use Rattle.std.proofs.lemmas.Grind.{flat_map-append}
 use Rattle.app_law.specs.declared.any_app.AnyApp.{AnyApp}
 use Rattle.app_law.specs.AnyApps.{any_next, any_fresh}
 use Rattle.app_law.specs.Folds.{fold_of}
-use Rattle.app_law.proofs.Folds.{fold_of-append}
+use Rattle.app_law.proofs.Folds.{fold_of_append}
 use Rattle.msg_wire.specs.Nodes.{same_node}
 use Rattle.msg_wire.specs.Valid.{IsValidConfig}
 use Rattle.net_model.specs.Pasts.{Past}
@@ -65,7 +65,7 @@ base_all : (base : AnyApp) (stable : List Item) → fold parts.base_after base s
 base_all base [] = refl
 base_all base (item ∷ stable) =
     base_all (parts.base_after base item) stable
-    ∙ (sym (fold_of-append any_next base (parts.confirmed_records (item ∷ [])) (parts.confirmed_records stable))
+    ∙ (sym (fold_of_append any_next base (parts.confirmed_records (item ∷ [])) (parts.confirmed_records stable))
     ∙ ap (fold_of any_next base) (sym (ap (map (λ c. c.0)) (filter_map-append kept_confirmation_in (item ∷ []) stable)
     ∙ map-append (λ c. c.0) (kept_confirmations (item ∷ [])) (kept_confirmations stable))))
 

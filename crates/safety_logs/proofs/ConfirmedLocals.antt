@@ -5,12 +5,12 @@ use Rattle.std.proofs.lemmas.Bool.{cases_lt}
 use Rattle.std.proofs.lemmas.List.{length-append}
 use Rattle.std.proofs.lemmas.Option.{slice_get_within}
 use Rattle.fix_ante.specs.Layout.{index_of}
-use Rattle.fix_ante.proofs.Entries.{slice_get-append_left}
+use Rattle.fix_ante.proofs.Entries.{slice_get_append_left}
 use Rattle.cut_core.specs.Agreements.{Agreement}
 use Rattle.cut_core.specs.Fold.{applied}
 use Rattle.cut_core.specs.Map.{placed}
-use Rattle.cut_core.proofs.AgreeingLemmas.{covered-applied}
-use Rattle.cut_core.proofs.Indices.{index_of-append, option_or-some}
+use Rattle.cut_core.proofs.AgreeingLemmas.{covered_applied}
+use Rattle.cut_core.proofs.Indices.{index_of_append, option_or_some}
 use Rattle.runs.specs.Names.{Entry, Record}
 use Rattle.runs.specs.Marks.{IsPrefix}
 use Rattle.safety_frame.proofs.Lists.{index_stays}
@@ -32,9 +32,9 @@ to_longer a shard len log more shown grown is = record {
 placed_on : (a : Agreement) (entry : Entry) (shard local position : ℕ) → placed a shard local ≡ Some position
     → placed (applied a entry) shard local ≡ Some position
 placed_on a entry shard local position at =
-    let more = covered-applied a entry in
+    let more = covered_applied a entry in
     ap (λ owners. index_of owners shard local) more.1
-    ∙ (index_of-append a.covered more.0 shard local ∙ option_or-some (index_of a.covered shard local) _ position at)
+    ∙ (index_of_append a.covered more.0 shard local ∙ option_or_some (index_of a.covered shard local) _ position at)
 
 pub to_later : (a : Agreement) (entry : Entry) (shard len : ℕ) (log : List Record) (shown : List (ℕ × Record)) → ConfirmsTo a shard len log shown
     → ConfirmsTo (applied a entry) shard len log shown
@@ -58,7 +58,7 @@ module _ (a : Agreement) (shard len : ℕ) (log : List Record) (shown : List (�
     long = omega (arith, is.long, length-append shown ((position, rec) ∷ []));
     each = λ local p r here.
         elim (cases_lt local (length shown)) [
-          | inl below ↦ is.each local p r (sym (slice_get-append_left shown ((position, rec) ∷ []) local below) ∙ here)
+          | inl below ↦ is.each local p r (sym (slice_get_append_left shown ((position, rec) ∷ []) local below) ∙ here)
           | inr above ↦
               let within = slice_get_within (shown ++ (position, rec) ∷ []) local (p, r) here in
               let last : local ≡ length shown = omega (arith, within, above, length-append shown ((position, rec) ∷ [])) in

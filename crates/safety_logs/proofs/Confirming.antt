@@ -9,10 +9,10 @@ use Rattle.cut_core.specs.declared.effects.Effect.TheVariants.{Removed}
 use Rattle.cut_core.specs.Agreements.{Agreement, agreement_from}
 use Rattle.cut_core.specs.Effects.{effect_of}
 use Rattle.cut_core.specs.Map.{placed, covered_locals}
-use Rattle.cut_core.proofs.AgreeingLemmas.{applied_all-push}
+use Rattle.cut_core.proofs.AgreeingLemmas.{applied_all_push}
 use Rattle.cut_core.proofs.Dense.{IsDense}
-use Rattle.cut_core.proofs.GoneEnds.{covered_locals-applied_all}
-use Rattle.cut_core.proofs.Indices.{index_of-some}
+use Rattle.cut_core.proofs.GoneEnds.{covered_locals_applied_all}
+use Rattle.cut_core.proofs.Indices.{index_of_some}
 use Rattle.consumer_node.proofs.Applied.{some_at}
 use Rattle.msg_wire.specs.Nodes.{is_primary, number_of}
 use Rattle.node_rules.specs.Nodes.{Node, agreed_by, has_slot, knowing}
@@ -105,7 +105,7 @@ module _ (before : List (ℕ × Record)) where
     confirm_all from (suc count) t dense placed_all held w =
         let a : Agreement = agreed_by s.base in
         let shard : ℕ = number_of s.base.me in
-        let place = index_of-some a.covered shard from dense (omega (arith, placed_all)) in
+        let place = index_of_some a.covered shard from dense (omega (arith, placed_all)) in
         let at = some_at s.own.log from (omega (arith, held)) in
         let one =
         confirm_one from place.0 at.0 t
@@ -132,8 +132,8 @@ module _ (before : List (ℕ × Record)) where
         let shard : ℕ = number_of n.base.me in
         let from : ℕ = covered_locals a shard in
         let t : Turn ReplicaState = covered_is_durable (learned entry u) in
-        let pushed = applied_all-push (agreement_from (first_of n.base.cfg.rounds n.base.cfg.table)) n.base.known entry in
-        let grown = subst (λ (b : Agreement). from ≤ covered_locals b shard) (sym pushed) (covered_locals-applied_all a (entry ∷ []) shard) in
+        let pushed = applied_all_push (agreement_from (first_of n.base.cfg.rounds n.base.cfg.table)) n.base.known entry in
+        let grown = subst (λ (b : Agreement). from ≤ covered_locals b shard) (sym pushed) (covered_locals_applied_all a (entry ∷ []) shard) in
         let later : UpTo from t =
         subst (λ (b : Agreement). ConfirmsTo b shard from n.own.log (before ++ [])) (sym pushed) (to_later a entry shard from n.own.log (before ++ []) start) in
         let end : ℕ = covered_of t in

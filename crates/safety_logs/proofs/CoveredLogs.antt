@@ -5,8 +5,8 @@ use Rattle.std.proofs.lemmas.List.Elements.{All-contains}
 use Rattle.fix_ante.specs.Windows.{first_of}
 use Rattle.cut_core.specs.Agreements.{Agreement, agreement_from}
 use Rattle.cut_core.specs.Map.{covered_locals}
-use Rattle.cut_core.proofs.AgreeingLemmas.{applied_all-push}
-use Rattle.majority.proofs.Lists.{Contains-here}
+use Rattle.cut_core.proofs.AgreeingLemmas.{applied_all_push}
+use Rattle.majority.proofs.Lists.{Contains_here}
 use Rattle.msg_wire.specs.Valid.{IsValidConfig}
 use Rattle.net_model.specs.Pasts.{Past}
 use Rattle.runs.specs.Names.{NodeId, Config, Entry}
@@ -35,7 +35,7 @@ use Rattle.safety_logs.proofs.Growing.{common_of}
 
 one_of : (count : ℕ) (voters : List ℕ) → count < 2 * length voters → (voter : ℕ) × Contains voters voter
 one_of count [] most = absurd (omega (arith, most))
-one_of count (voter ∷ voters) most = (voter, Contains-here voter voters)
+one_of count (voter ∷ voters) most = (voter, Contains_here voter voters)
 
 module _ (cfg : Config) (valid : IsValidConfig cfg) (past : Past) (run : IsPastOf cfg past) where
   -- a known entry is good after those before it
@@ -67,7 +67,7 @@ module _ (cfg : Config) (valid : IsValidConfig cfg) (past : Past) (run : IsPastO
       let begins = begins_on before (before ++ entry ∷ rest) known (begins_more before (entry ∷ rest)) p in
       let sound = ((known_folds_hold cfg past valid run).consistent before (node, begins)).sound in
       let good = known_good node before entry rest p in
-      let pushed = applied_all-push (agreement_from (first_of cfg.rounds cfg.table)) before entry in
+      let pushed = applied_all_push (agreement_from (first_of cfg.rounds cfg.table)) before entry in
       subst (λ l. covered_locals (agreed_after cfg l) shard ≤ counted cfg (agreed_after cfg l) shard past) next
       (counted_on node (before ++ entry ∷ []) rest (subst (λ l. IsPrefix l known) (sym next) p)
       (λ other.

@@ -10,8 +10,8 @@ use Rattle.cut_core.specs.Fold.{with_round, open_granted, after_cut, after_entry
 use Rattle.cut_core.specs.Map.{covered_locals}
 use Rattle.cut_core.specs.Reasons.{fault_of}
 use Rattle.cut_core.specs.Soundness.{IsSound}
-use Rattle.cut_core.proofs.Counts.{quota_of-absent}
-use Rattle.cut_core.proofs.Kept.{count_of-round, gone-row, starts-round}
+use Rattle.cut_core.proofs.Counts.{quota_of_absent}
+use Rattle.cut_core.proofs.Kept.{count_of_round, gone_row, starts_round}
 use Rattle.cut_core.proofs.Sound.{no_fault}
 use Rattle.node_rules.proofs.Lists.{on_test}
 use Rattle.runs.specs.Names.{Entry}
@@ -32,8 +32,8 @@ module _ (a : Agreement) (is : IsSound a) (counts : ℕ → ℕ) where
       → count_of shard (with_round a).covered ≤ counts shard
   round_counts shard rows before =
       elim (cases_Bool (is_gone a shard)) [
-        | inl gone ↦ omega (arith, before, count_of-round a shard is, quota_of-absent a.current.spots shard (gone-row a is.rows shard gone))
-        | inr stays ↦ omega (arith, starts-round a shard is stays, rows_reach counts a.rounds a.current.spots shard rows)
+        | inl gone ↦ omega (arith, before, count_of_round a shard is, quota_of_absent a.current.spots shard (gone_row a is.rows shard gone))
+        | inr stays ↦ omega (arith, starts_round a shard is stays, rows_reach counts a.rounds a.current.spots shard rows)
       ]
 
   -- ---- an entry

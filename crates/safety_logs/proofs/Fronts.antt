@@ -2,7 +2,7 @@
 use Rattle.std.proofs.Common.{◌≡◌, ◌∙◌, ℕ, ◌+◌, ◌<◌, ◌≤◌, List, [], ◌∷◌, ◌++◌, length, take, drop, Some, append_assoc, refl, sym, ap, take-append-drop, arith}
 use Rattle.std.specs.List.{slice_get}
 use Rattle.std.proofs.lemmas.Option.{same_Some}
-use Rattle.fix_ante.proofs.Entries.{slice_get-append_left, slice_get-append_right}
+use Rattle.fix_ante.proofs.Entries.{slice_get_append_left, slice_get_append_right}
 use Rattle.runs.specs.Marks.{IsPrefix}
 use Rattle.safety_frame.proofs.Lists.{length_stays}
 
@@ -13,7 +13,7 @@ next_is (y ∷ rest) x at = (rest, ap (λ z. z ∷ rest) (same_Some y x at))
 pub after_front : {A : Type 0} (xs rest : List A) → slice_get (xs ++ rest) (length xs) ≡ slice_get rest 0
 after_front xs rest =
     let end : length xs ≡ length xs + 0 = omega arith in
-    ap (slice_get (xs ++ rest)) end ∙ slice_get-append_right xs rest (length xs) 0 refl
+    ap (slice_get (xs ++ rest)) end ∙ slice_get_append_right xs rest (length xs) 0 refl
 
 -- what stands at its end may be put there
 pub begins_next : {A : Type 0} (xs ys : List A) (x : A) → IsPrefix xs ys → slice_get ys (length xs) ≡ Some x → IsPrefix (xs ++ x ∷ []) ys
@@ -29,4 +29,4 @@ no_longer xs ys p = length_stays xs ys (length xs) p (omega arith)
 
 -- what the longer list has at a place of the beginning stands there
 pub index_back : {A : Type 0} (xs ys : List A) (i : ℕ) (x : A) → IsPrefix xs ys → i < length xs → slice_get ys i ≡ Some x → slice_get xs i ≡ Some x
-index_back xs ys i x p below at = sym (slice_get-append_left xs p.0 i below) ∙ (sym (ap (λ l. slice_get l i) p.1) ∙ at)
+index_back xs ys i x p below at = sym (slice_get_append_left xs p.0 i below) ∙ (sym (ap (λ l. slice_get l i) p.1) ∙ at)

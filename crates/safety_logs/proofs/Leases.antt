@@ -6,7 +6,7 @@ use Rattle.std.proofs.lemmas.List.{length-append}
 use Rattle.std.proofs.lemmas.Option.{slice_get_within}
 use Rattle.fix_ante.specs.declared.spots.Owner.{Owner}
 use Rattle.fix_ante.specs.Locals.{locals_of}
-use Rattle.fix_ante.proofs.LocalLemmas.{locals_of-append}
+use Rattle.fix_ante.proofs.LocalLemmas.{locals_of_append}
 use Rattle.cut_core.specs.declared.effects.Effect.{Effect}
 use Rattle.cut_core.specs.declared.effects.Effect.TheVariants.{Still, Covered, Opened, Granted, Removed, Void}
 use Rattle.cut_core.specs.Agreements.{Agreement, count_of}
@@ -15,8 +15,8 @@ use Rattle.cut_core.specs.Effects.{effect_of}
 use Rattle.cut_core.specs.Fold.{applied}
 use Rattle.cut_core.specs.Map.{map_of, mapped, leased, covered_locals, rest_of, granted_layout}
 use Rattle.cut_core.specs.MapsAgree.{IsBelowFirst}
-use Rattle.cut_core.proofs.AgreeingLemmas.{mapped-applied}
-use Rattle.cut_core.proofs.Consistent.{IsConsistent-fold_of}
+use Rattle.cut_core.proofs.AgreeingLemmas.{mapped_applied}
+use Rattle.cut_core.proofs.Consistent.{IsConsistent_fold_of}
 use Rattle.cut_core.proofs.Parts.{some_value}
 use Rattle.node_rules.specs.Names.{Entry}
 use Rattle.node_rules.specs.Bases.{Base, agreed_by}
@@ -28,12 +28,12 @@ leases a shard = count_of shard (map_of a)
 
 pub base_consistent : (b : Base) → IsBase b → IsConsistent (agreed_by b)
 base_consistent b is =
-    IsConsistent-fold_of b.cfg.rounds b.cfg.table b.known is.cfg.rounds.0 is.cfg.rounds.1 is.cfg.rows.table is.few (all_foldable b.known is.entries)
+    IsConsistent_fold_of b.cfg.rounds b.cfg.table b.known is.cfg.rounds.0 is.cfg.rounds.1 is.cfg.rows.table is.few (all_foldable b.known is.entries)
 
 pub covered_leased : (a : Agreement) (shard : ℕ) → covered_locals a shard ≤ leases a shard
 covered_leased a shard =
     let later = rest_of a ++ granted_layout a.granted in
-    omega (arith, ap length (locals_of-append shard a.covered later), length-append (locals_of shard a.covered) (locals_of shard later))
+    omega (arith, ap length (locals_of_append shard a.covered later), length-append (locals_of shard a.covered) (locals_of shard later))
 
 module _ (a b : Agreement) (shard : ℕ) (is : IsConsistent a) (next : IsConsistent b) (same : (p : ℕ) → p < length (map_of a) → mapped b p ≡ mapped a p) where
   abbrev owner : ℕ → Owner
@@ -57,7 +57,7 @@ module _ (a b : Agreement) (shard : ℕ) (is : IsConsistent a) (next : IsConsist
 -- an entry that removes nothing
 module _ (a : Agreement) (entry : Entry) (shard : ℕ) (is : IsConsistent a) (next : IsConsistent (applied a entry)) where
   below_first : ((p : ℕ) → IsBelowFirst (effect_of a entry) p) → leases a shard ≤ leases (applied a entry) shard
-  below_first below = leases_grow a (applied a entry) shard is next (λ p inside. mapped-applied a entry p is.sound inside (below p))
+  below_first below = leases_grow a (applied a entry) shard is next (λ p inside. mapped_applied a entry p is.sound inside (below p))
 
   -- else the promises are taken back
   pub unless_removed : (effect : Effect) → effect_of a entry ≡ effect → (Covers : Type 0)

@@ -10,7 +10,7 @@ use Rattle.cut_core.specs.Consistency.{IsConsistent}
 use Rattle.cut_core.specs.Effects.{effect_of}
 use Rattle.cut_core.specs.Fold.{applied}
 use Rattle.cut_core.specs.Map.{leased, covered_locals}
-use Rattle.cut_core.proofs.AgreeingLemmas.{applied_all-push}
+use Rattle.cut_core.proofs.AgreeingLemmas.{applied_all_push}
 use Rattle.msg_wire.specs.Nodes.{is_primary, number_of}
 use Rattle.msg_wire.specs.Valid.{IsValidEvent}
 use Rattle.node_rules.specs.Names.{NodeId, Entry, Record, Item, Event}
@@ -93,7 +93,7 @@ module _ (n : Node ReplicaState) (event : Event) (valid : IsValidEvent event) (b
       record { from = from; count = count; comes = subst (λ (k : ℕ). Comes n event from (whats.Decided k count entry)) (eqb-true _ _ is_next) comes } in
       let fits = told_valid n event n entry here valid in
       after_learned (agreed u) entry start.1 (learned entry u) (base_consistent (knowing entry n.base) (base_knowing entry n.base fits.0 fits.1 base))
-      (applied_all-push (agreement_from (first_of n.base.cfg.rounds n.base.cfg.table)) n.base.known entry) start.0)
+      (applied_all_push (agreement_from (first_of n.base.cfg.rounds n.base.cfg.table)) n.base.known entry) start.0)
       (λ _. start) in
       on_test OfTurn (nat_lt (count_known next) next.state.base.seen) (ask from next) next (λ _. after_ask from next told) (λ _. told)
 

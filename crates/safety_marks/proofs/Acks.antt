@@ -6,7 +6,7 @@ use Rattle.std.proofs.lemmas.Bool.{false≢true, and_parts, eqb-true}
 use Rattle.std.proofs.lemmas.List.{map-append}
 use Rattle.std.proofs.lemmas.List.Elements.{filter_map-append}
 use Rattle.std.proofs.lemmas.List.FromFn.{length-range_with_len}
-use Rattle.cut_core.proofs.Counts.{dense-more}
+use Rattle.cut_core.proofs.Counts.{dense_more}
 use Rattle.msg_wire.specs.Heeded.{is_heeded}
 use Rattle.msg_wire.specs.Nodes.{is_client, same_node}
 use Rattle.msg_wire.specs.Valid.{IsValidConfig}
@@ -160,7 +160,7 @@ module _ (cfg : Config) (valid : IsValidConfig cfg) where
       length-append (numbers earlier) (numbers shown)
       ∙ ap (λ (k : ℕ). length (numbers earlier) + k) (ap length is.1.1 ∙ length-range_with_len n.own.acked is.0) in
       let state = ap (λ s. s.own.acked) (own_state clients cfg e.node e past valid run (node_itself e.node)) in (
-        subst IsCounted (sym all) (dense-more (numbers earlier) (numbers shown) n.own.acked is.0 before.0 is.1.1 before.1),
+        subst IsCounted (sym all) (dense_more (numbers earlier) (numbers shown) n.own.acked is.0 before.0 is.1.1 before.1),
         state ∙ (is.1.0 ∙ (ap (λ (k : ℕ). k + is.0) before.1 ∙ (sym more ∙ ap length (sym all)))),
       )
 

@@ -11,7 +11,7 @@ use Rattle.cut_core.specs.Reasons.{fault_of}
 use Rattle.cut_core.specs.Effects.{cut_effect, effect_where_fit, void_or, effect_of}
 use Rattle.cut_core.specs.Fold.{after_entry, unless_void, applied, applied_all}
 use Rattle.cut_core.specs.MapsAgree.{IsBelowFirst, IsBelowFirsts}
-use Rattle.majority.proofs.Lists.{Contains-here, Contains-later}
+use Rattle.majority.proofs.Lists.{Contains_here, Contains_later}
 use Rattle.node_rules.proofs.Lists.{on_test}
 use Rattle.runs.specs.Names.{Entry}
 use Rattle.runs.specs.Names.entries
@@ -36,14 +36,14 @@ abbrev pub HasFirst : List ℕ → ℕ → Type 0
 HasFirst firsts position = (first : ℕ) × (first ≤ position) × Contains firsts first
 
 later_first : (first : ℕ) (firsts : List ℕ) (position : ℕ) → HasFirst firsts position → HasFirst (first ∷ firsts) position
-later_first first firsts position has = (has.0, has.1, Contains-later first has.0 firsts has.2)
+later_first first firsts position has = (has.0, has.1, Contains_later first has.0 firsts has.2)
 
 by_effect : (position : ℕ) (effect : Effect) (Below : Type 0) (firsts : List ℕ) → Below ⊎ HasFirst firsts position
     → (IsBelowFirst effect position × Below) ⊎ HasFirst (cons_option (first_in effect) firsts) position
 by_effect position (Removed shard first) Below firsts rest =
     elim (cases_lt position first) [
       | inl below ↦ elim rest [ inl all ↦ inl (below, all) | inr some ↦ inr (later_first first firsts position some) ]
-      | inr above ↦ inr (first, above, Contains-here first firsts)
+      | inr above ↦ inr (first, above, Contains_here first firsts)
     ]
 by_effect position _ Below firsts rest = elim rest [ inl all ↦ inl (tt, all) | inr some ↦ inr some ]
 

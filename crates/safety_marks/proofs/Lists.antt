@@ -1,7 +1,7 @@
 -- Lists: what holds of each member given the earlier ones, two beginnings of one list, and members that pass a reading.
 use Rattle.std.proofs.Common.{◌≡◌, ◌∙◌, ◌⊎◌, List, [], ◌∷◌, ◌++◌, filter_map, Contains, Option, Some, None, append_assoc, append-nil, refl, sym, ap, subst, inl, inr}
 use Rattle.std.specs.List.{cons_option}
-use Rattle.majority.proofs.Lists.{Contains-cases, Contains-here, Contains-later, Contains-none}
+use Rattle.majority.proofs.Lists.{Contains_cases, Contains_here, Contains_later, Contains_none}
 use Rattle.runs.specs.Marks.{IsPrefix, EachAfter}
 
 -- ---- each after the earlier ones
@@ -53,27 +53,27 @@ module _ {A B : Type 0} (f : A → Option B) (y : B) where
   IsReadFrom xs = (x : A) × Contains xs x × (f x ≡ Some y)
 
   read_later : (x : A) (xs : List A) → IsReadFrom xs → IsReadFrom (x ∷ xs)
-  read_later x xs found = (found.0, Contains-later x found.0 xs found.1, found.2)
+  read_later x xs found = (found.0, Contains_later x found.0 xs found.1, found.2)
 
   read_first : (x : A) (xs : List A) (o : Option B) → f x ≡ o → (Contains (filter_map f xs) y → IsReadFrom xs)
       → Contains (cons_option o (filter_map f xs)) y → IsReadFrom (x ∷ xs)
   read_first x xs None e later c = read_later x xs (later c)
-  read_first x xs (Some z) e later c = elim (Contains-cases z y (filter_map f xs) c) [
-    | inl same ↦ (x, Contains-here x xs, e ∙ ap (λ w. Some w) same)
+  read_first x xs (Some z) e later c = elim (Contains_cases z y (filter_map f xs) c) [
+    | inl same ↦ (x, Contains_here x xs, e ∙ ap (λ w. Some w) same)
     | inr there ↦ read_later x xs (later there)
   ]
 
   pub member_read : (xs : List A) → Contains (filter_map f xs) y → IsReadFrom xs
-  member_read [] c = absurd (Contains-none y c)
+  member_read [] c = absurd (Contains_none y c)
   member_read (x ∷ xs) c = read_first x xs (f x) refl (member_read xs) c
 
   read_there : (x : A) (xs : List A) (o : Option B) → Contains (filter_map f xs) y → Contains (cons_option o (filter_map f xs)) y
   read_there x xs None c = c
-  read_there x xs (Some z) c = Contains-later z y (filter_map f xs) c
+  read_there x xs (Some z) c = Contains_later z y (filter_map f xs) c
 
   pub read_member : (xs : List A) (x : A) → Contains xs x → f x ≡ Some y → Contains (filter_map f xs) y
-  read_member [] x c e = absurd (Contains-none x c)
-  read_member (z ∷ xs) x c e = elim (Contains-cases z x xs c) [
-    | inl same ↦ subst (λ o. Contains (cons_option o (filter_map f xs)) y) (sym (ap f same ∙ e)) (Contains-here y (filter_map f xs))
+  read_member [] x c e = absurd (Contains_none x c)
+  read_member (z ∷ xs) x c e = elim (Contains_cases z x xs c) [
+    | inl same ↦ subst (λ o. Contains (cons_option o (filter_map f xs)) y) (sym (ap f same ∙ e)) (Contains_here y (filter_map f xs))
     | inr later ↦ read_there z xs (f z) (read_member xs x later e)
   ]

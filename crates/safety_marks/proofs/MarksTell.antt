@@ -7,8 +7,8 @@ use Rattle.fix_ante.specs.declared.spots.Owner.{Owner}
 use Rattle.std.proofs.lemmas.List.{length-take-le}
 use Rattle.cut_core.specs.Agreements.{Agreement}
 use Rattle.cut_core.specs.Map.{map_of, covered_locals}
-use Rattle.cut_core.proofs.Dense.{slice_get-index_of}
-use Rattle.cut_core.proofs.Parts.{mapped-covered}
+use Rattle.cut_core.proofs.Dense.{slice_get_index_of}
+use Rattle.cut_core.proofs.Parts.{mapped_covered}
 use Rattle.msg_wire.specs.Nodes.{is_consumer, is_primary}
 use Rattle.msg_wire.specs.Valid.{IsValidConfig, IsNodeOf}
 use Rattle.net_model.specs.Pasts.{Past}
@@ -68,16 +68,16 @@ module _ (cfg : Config) (past : Past) (shard : ℕ) (side : Side) where
         → ConfirmsLocal a shard (log_at cfg shard side past) position rec → IsSettled (held_logs cfg past) a position rec
     confirm_true len position rec are covered is =
         let owner : Owner = record { shard = shard; local = is.local } in
-        let there = slice_get-index_of a.covered shard is.local position is.place in
+        let there = slice_get_index_of a.covered shard is.local position is.place in
         let below = slice_get_within a.covered position owner there in
         let stands = local_held len is.local rec are (omega (arith, is.covered, covered)) is.at in
-        record { covered = below; owned = record { owner = owner; there = mapped-covered a position below ∙ there; stands = stands } }
+        record { covered = below; owned = record { owner = owner; there = mapped_covered a position below ∙ there; stands = stands } }
 
     promise_true : (len : ℕ) (position : ℕ) (rec : Record) → IsHeldTo len
         → PromisesLocal a (nodes.Shard shard side) len (log_at cfg shard side past) position rec → StandsAt cfg past known position rec
     promise_true len position rec are is = record {
       owner = record { shard = shard; local = is.local };
-      there = slice_get-index_of (map_of a) shard is.local position is.lease;
+      there = slice_get_index_of (map_of a) shard is.local position is.lease;
       stands = local_held len is.local rec are is.below is.at;
     }
 

@@ -8,7 +8,7 @@ use Rattle.cut_core.specs.Agreements.{Agreement, agreement_from, count_of}
 use Rattle.cut_core.specs.Effects.{effect_of}
 use Rattle.cut_core.specs.Fold.{applied}
 use Rattle.cut_core.specs.Map.{covered_locals}
-use Rattle.cut_core.proofs.AgreeingLemmas.{applied_all-push}
+use Rattle.cut_core.proofs.AgreeingLemmas.{applied_all_push}
 use Rattle.node_rules.specs.Names.{NodeId, Entry, Mark, Event}
 use Rattle.node_rules.specs.Names.marks
 use Rattle.node_rules.specs.Names.whats
@@ -87,7 +87,7 @@ module _ (n : Node ReplicaState) where
   after_decided from slot count entry =
       let u : Turn ReplicaState = with_seen count (started n) in
       let next : Turn ReplicaState = learn_next on_learned slot entry u in
-      let more = applied_all-push (agreement_from (first_of n.base.cfg.rounds n.base.cfg.table)) n.base.known entry in
+      let more = applied_all_push (agreement_from (first_of n.base.cfg.rounds n.base.cfg.table)) n.base.known entry in
       let told : HasNoticed n next =
       on_test (HasNoticed n) (slot == count_known u) (learn on_learned entry u) u
       (λ _. (Some entry, after_learned (agreed u) entry (learned entry u) refl more)) (λ _. (None, (refl, (tt, refl)))) in

@@ -4,7 +4,7 @@ use Rattle.std.specs.List.{cons_option}
 use Rattle.cut_core.specs.declared.effects.Effect.{Effect}
 use Rattle.cut_core.specs.declared.effects.Effect.TheVariants.{Removed}
 use Rattle.cut_core.specs.Effects.{effect_of}
-use Rattle.majority.proofs.Lists.{Contains-cases, Contains-none}
+use Rattle.majority.proofs.Lists.{Contains_cases, Contains_none}
 use Rattle.msg_wire.specs.Valid.{IsValidConfig}
 use Rattle.net_model.specs.Pasts.{Past, Throughout}
 use Rattle.node_rules.proofs.Lists.{all_weaken}
@@ -25,16 +25,16 @@ use Rattle.safety_marks.proofs.Others.{AllOther, sequencer_others, client_others
 use Rattle.safety_marks.proofs.Entries.{EntryNotices, entry_notices}
 
 the_removal : (effect : Effect) (first : ℕ) → Contains (cons_option (first_in effect) []) first → (shard : ℕ) × (effect ≡ Removed shard first)
-the_removal (Removed shard moved) first c = elim (Contains-cases moved first [] c) [
+the_removal (Removed shard moved) first c = elim (Contains_cases moved first [] c) [
   | inl same ↦ (shard, ap (λ (n : ℕ). Removed shard n) same)
-  | inr later ↦ absurd (Contains-none first later)
+  | inr later ↦ absurd (Contains_none first later)
 ]
-the_removal _ first c = absurd (Contains-none first c)
+the_removal _ first c = absurd (Contains_none first c)
 
 module _ (cfg : Config) (past : Past) (e : HistoryEntry) where
   by_learned : (first : ℕ) (learned : Option Entry) → known_at cfg e.node (e ∷ past) ≡ known_with (known_at cfg e.node past) learned
       → Contains (firsts_with (agreed_at cfg e.node past) learned) first → IsTrueNotice cfg past e (marks.Notice first)
-  by_learned first None known c = absurd (Contains-none first c)
+  by_learned first None known c = absurd (Contains_none first c)
   by_learned first (Some entry) known c =
       let is = the_removal (effect_of (agreed_at cfg e.node past) entry) first c in
       (entry, is.0, known, is.1)

@@ -3,7 +3,7 @@ use Rattle.std.proofs.Common.{◌∙◌, ℕ, List, sym, subst, arith}
 use Rattle.std.proofs.lemmas.Option.{slice_get_within}
 use Rattle.cut_core.specs.Agreements.{Agreement}
 use Rattle.cut_core.specs.Consistency.{IsContinuedBy}
-use Rattle.cut_core.proofs.Parts.{mapped-covered}
+use Rattle.cut_core.proofs.Parts.{mapped_covered}
 use Rattle.msg_wire.specs.Valid.{IsValidConfig}
 use Rattle.net_model.specs.Pasts.{Past}
 use Rattle.runs.specs.Names.{Config, Entry, Record}
@@ -30,7 +30,7 @@ stands_on cfg past before on position rec is =
     let still = on.covered_agree position is.covered in
     record {
       owner = is.owned.owner;
-      covered = sym (mapped-covered (agreed_after cfg (agreed_list cfg past)) position still.0) ∙ (still.1 ∙ is.owned.there);
+      covered = sym (mapped_covered (agreed_after cfg (agreed_list cfg past)) position still.0) ∙ (still.1 ∙ is.owned.there);
       held = is.owned.stands;
     }
 

@@ -10,7 +10,7 @@ use Rattle.script_text.specs.Spelled.{script_word}
 use Rattle.script_text.specs.Judged.{Judged, version_in, seqs_in, shards_in, window_in, clients_in, consumers_in, input_in}
 use Rattle.script_text.specs.Reading.{Refusal, on_line, due_line, head_in, inputs_in, lines_in, script_in, IsRefusedAt}
 use Rattle.script_text.specs.Scripts.{SpellsLines, SpellsScript, lines_before}
-use Rattle.script_text.proofs.HeadLemmas.{cluster, from_sixth, from_fifth, from_fourth, from_third, from_second, head_in-ok}
+use Rattle.script_text.proofs.HeadLemmas.{cluster, from_sixth, from_fifth, from_fourth, from_third, from_second, head_in_ok}
 
 -- a value, and the lines that are left
 abbrev paired : {X : Type 0} → X → List Line → Result (X × List Line) Refusal
@@ -168,7 +168,7 @@ from_head : (end other line : ℕ) (kind : ScriptKind) (front more : List Line) 
     → Taken other front
 unfolding lines_in with_more
 from_head end other line kind front more (Ok (c, left)) few h whole_head below refused =
-    let rest : left ≡ drop 6 front = (head_in-ok script_word other front (c, left) h).rest_is in
+    let rest : left ≡ drop 6 front = (head_in_ok script_word other front (c, left) h).rest_is in
     let P : List Line → Type 0 = AllBelow line in
     let left_few : AllBelow line left = subst P (sym rest) (below_rest line 6 front few) in
     from_inputs end other line kind front more c left (inputs_in c left) h whole_head refl (inputs_below c line left left_few) refused
@@ -187,12 +187,12 @@ counted_on : (b : Bool) (l : Line) (xs ys rest : List Line) → rest ≡ xs ++ y
 counted_on true l xs ys rest e = ap (λ (t : List Line). l ∷ t) e
 counted_on false l xs ys rest e = e
 
-counted-append : (number : ℕ) (xs ys : List (List ℕ)) → counted_from number (xs ++ ys) ≡ counted_from number xs ++ counted_from (number + length xs) ys
-counted-append number [] ys = ap (λ (n : ℕ). counted_from n ys) (omega arith)
-counted-append number (x ∷ xs) ys =
+counted_append : (number : ℕ) (xs ys : List (List ℕ)) → counted_from number (xs ++ ys) ≡ counted_from number xs ++ counted_from (number + length xs) ys
+counted_append number [] ys = ap (λ (n : ℕ). counted_from n ys) (omega arith)
+counted_append number (x ∷ xs) ys =
     let at : number + 1 + length xs ≡ number + length (x ∷ xs) = omega arith in
     counted_on (counts x) (record { number = number; bytes = x }) (counted_from (number + 1) xs) (counted_from (number + length (x ∷ xs)) ys) (counted_from (number + 1) (xs ++ ys))
-    (counted-append (number + 1) xs ys ∙ ap (λ (n : ℕ). counted_from (number + 1) xs ++ counted_from n ys) at)
+    (counted_append (number + 1) xs ys ∙ ap (λ (n : ℕ). counted_from (number + 1) xs ++ counted_from n ys) at)
 
 below_on : (line : ℕ) (b : Bool) (l : Line) (rest : List Line) → l.number < line → AllBelow line rest → AllBelow line (cond b (l ∷ rest) rest)
 below_on line true l rest h few = (h, few)
@@ -219,11 +219,11 @@ cut_counted text cut line e = ap (counted_from 1) e
 parted : (text : List ℕ) (n : ℕ)
     → counted_lines text ≡ counted_from 1 (take n (lines text)) ++ counted_from (1 + length (take n (lines text))) (drop n (lines text))
 unfolding left_of
-parted text n = ap (counted_from 1) (sym (take-append-drop n (lines text))) ∙ counted-append 1 (take n (lines text)) (drop n (lines text))
+parted text n = ap (counted_from 1) (sym (take-append-drop n (lines text))) ∙ counted_append 1 (take n (lines text)) (drop n (lines text))
 
-pub before-taken : (text cut : List ℕ) (line : ℕ) → lines cut ≡ take (line - 1) (lines text) → IsRefusedAt line text → 6 ≤ length (lines_before line text)
+pub before_taken : (text cut : List ℕ) (line : ℕ) → lines cut ≡ take (line - 1) (lines text) → IsRefusedAt line text → 6 ≤ length (lines_before line text)
     → (c : Config) × (inputs : List Input) × (script_in cut ≡ Ok (c, inputs))
-before-taken text cut line e refused six =
+before_taken text cut line e refused six =
     let front = lines_before line text in
     let more = counted_from (1 + length (take (line - 1) (lines text))) (drop (line - 1) (lines text)) in
     let size : 1 + length (take (line - 1) (lines text)) ≤ line = omega (arith, length-take (line - 1) (lines text), counted_shorter 1 (take (line - 1) (lines text)), six) in
@@ -231,6 +231,6 @@ before-taken text cut line e refused six =
     let taken = taken_front (end_of (whole text)) (end_of (whole cut)) line refused.0 front more (counted_below line 1 (take (line - 1) (lines text)) size) six there in
     (taken.0, taken.1, ap (lines_in (end_of (whole cut))) (cut_counted text cut line e) ∙ taken.2)
 
-pub before-spelled : (text cut : List ℕ) (line : ℕ) (c : Config) (inputs : List Input) (numbers : List ℕ) → lines cut ≡ take (line - 1) (lines text)
+pub before_spelled : (text cut : List ℕ) (line : ℕ) (c : Config) (inputs : List Input) (numbers : List ℕ) → lines cut ≡ take (line - 1) (lines text)
     → SpellsScript cut c inputs numbers → SpellsLines (lines_before line text) c inputs numbers
-before-spelled text cut line c inputs numbers e s = let P : List Line → Type 0 = λ ls. SpellsLines ls c inputs numbers in subst P (cut_counted text cut line e) s
+before_spelled text cut line c inputs numbers e s = let P : List Line → Type 0 = λ ls. SpellsLines ls c inputs numbers in subst P (cut_counted text cut line e) s

@@ -9,7 +9,7 @@ use Rattle.std.proofs.lemmas.List.Quantifiers.{position-Some}
 use Rattle.std.proofs.lemmas.List.Splits.{slice_split-cons_no}
 use Rattle.std.proofs.Math.Seq.{take-append_seam, take-append-add}
 use Rattle.script_text.proofs.Splits.{split_some}
-use Rattle.script_text.proofs.LineLemmas.{lines-end}
+use Rattle.script_text.proofs.LineLemmas.{lines_end}
 
 abbrev pub is_newline : ℕ → Bool
 is_newline b = b == 10
@@ -31,9 +31,9 @@ split_on c cs x false h =
     let some = split_some is_newline cs in
     ap (onto_first c) h ∙ onto_both c (slice_split is_newline cs) (slice_split is_newline x) some.0 some.1 some.2
 
-split-append : (y x : List ℕ) → slice_split is_newline (y ++ 10 ∷ x) ≡ slice_split is_newline y ++ slice_split is_newline x
-split-append [] x = refl
-split-append (c ∷ cs) x = split_on c cs x (is_newline c) (split-append cs x)
+split_append : (y x : List ℕ) → slice_split is_newline (y ++ 10 ∷ x) ≡ slice_split is_newline y ++ slice_split is_newline x
+split_append [] x = refl
+split_append (c ∷ cs) x = split_on c cs x (is_newline c) (split_append cs x)
 
 parts_append : (ps : List (List ℕ)) (b : List ℕ) (bs : List (List ℕ)) → lines_of_parts (ps ++ b ∷ bs) ≡ map strip_carriage_return ps ++ lines_of_parts (b ∷ bs)
 parts_append [] b bs = refl
@@ -47,14 +47,14 @@ parts_both ps bs b rest e = rw e (parts_append ps b rest)
 pub lines_on : (y x : List ℕ) → lines (y ++ 10 ∷ x) ≡ map strip_carriage_return (slice_split is_newline y) ++ lines x
 lines_on y x =
     let some = split_some is_newline x in
-    ap lines_of_parts (split-append y x) ∙ parts_both (slice_split is_newline y) (slice_split is_newline x) some.0 some.1 some.2
+    ap lines_of_parts (split_append y x) ∙ parts_both (slice_split is_newline y) (slice_split is_newline x) some.0 some.1 some.2
 
 lines_ended : (y : List ℕ) → lines (y ++ 10 ∷ []) ≡ map strip_carriage_return (slice_split is_newline y)
 lines_ended y = lines_on y [] ∙ append-nil (map strip_carriage_return (slice_split is_newline y))
 
-pub lines-append : (front x : List ℕ) → IsWhole front → lines (front ++ x) ≡ lines front ++ lines x
-lines-append front x (inl e) = rw e refl
-lines-append front x (inr (y, e)) =
+pub lines_append : (front x : List ℕ) → IsWhole front → lines (front ++ x) ≡ lines front ++ lines x
+lines_append front x (inl e) = rw e refl
+lines_append front x (inr (y, e)) =
     ap (λ (t : List ℕ). lines (t ++ x)) e
     ∙ (ap lines (append_assoc y (10 ∷ []) x)
     ∙ (lines_on y x
@@ -104,27 +104,27 @@ next_line text at end count h e =
     record {
       within = omega (arith, b.2, length-drop at text, h.within);
       cut = inr (take at text ++ take end (drop at text), more ∙ sym (append_assoc (take at text) (take end (drop at text)) (10 ∷ [])));
-      count_is = ap (λ (t : List ℕ). length (lines t)) more ∙ (ap length (lines-append (take at text) (take end (drop at text) ++ 10 ∷ []) h.cut) ∙ omega (arith, length-append (lines (take at text)) (lines (take end (drop at text) ++ 10 ∷ [])), h.count_is, one_line (take end (drop at text)) b.0));
+      count_is = ap (λ (t : List ℕ). length (lines t)) more ∙ (ap length (lines_append (take at text) (take end (drop at text) ++ 10 ∷ []) h.cut) ∙ omega (arith, length-append (lines (take at text)) (lines (take end (drop at text) ++ 10 ∷ [])), h.count_is, one_line (take end (drop at text)) b.0));
     }
 
 take_front : (xs ys : List (List ℕ)) (n : ℕ) → length xs ≡ n → take n (xs ++ ys) ≡ xs
 take_front xs ys n e = let P : ℕ → Type 0 = λ k. take k (xs ++ ys) ≡ xs in subst P e (take-append_seam xs ys)
 
 lines_both : (text : List ℕ) (at count : ℕ) → IsEndOf text at count → lines text ≡ lines (take at text) ++ lines (drop at text)
-lines_both text at count h = ap lines (sym (take-append-drop at text)) ∙ lines-append (take at text) (drop at text) h.cut
+lines_both text at count h = ap lines (sym (take-append-drop at text)) ∙ lines_append (take at text) (drop at text) h.cut
 
 -- the first lines stand before the place where they end
-pub lines-cut : (text : List ℕ) (at count : ℕ) → IsEndOf text at count → lines (take at text) ≡ take count (lines text)
-lines-cut text at count h =
+pub lines_cut : (text : List ℕ) (at count : ℕ) → IsEndOf text at count → lines (take at text) ≡ take count (lines text)
+lines_cut text at count h =
     sym (ap (take count) (lines_both text at count h) ∙ take_front (lines (take at text)) (lines (drop at text)) count h.count_is)
 
 last_line : (x : List ℕ) → position is_newline x ≡ None → length (lines x) ≤ 1
 last_line [] e = omega arith
-last_line (b ∷ bs) e = omega (arith, ap length (lines-end (b ∷ bs) (omega arith) e))
+last_line (b ∷ bs) e = omega (arith, ap length (lines_end (b ∷ bs) (omega arith) e))
 
 -- where no further line ends, the text has no more than one line more
-pub lines-all : (text : List ℕ) (at count most : ℕ) → IsEndOf text at count → position is_newline (drop at text) ≡ None → count < most
+pub lines_all : (text : List ℕ) (at count most : ℕ) → IsEndOf text at count → position is_newline (drop at text) ≡ None → count < most
     → lines (take (length text) text) ≡ take most (lines text)
-lines-all text at count most h e less =
+lines_all text at count most h e less =
     let few : length (lines text) ≤ most = omega (arith, ap length (lines_both text at count h), length-append (lines (take at text)) (lines (drop at text)), h.count_is, last_line (drop at text) e) in
     ap lines (take_all (length text) text (omega arith)) ∙ sym (take_all most (lines text) few)

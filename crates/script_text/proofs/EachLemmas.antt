@@ -14,13 +14,13 @@ module _ {A : Type 0} (judge : List ℕ → Judged A) where
   joined front x (Ok rest) = ap Ok (sym (append_assoc front (x ∷ []) rest))
   joined front x (Err kind) = refl
 
-  pub each-next : (front : List A) (word : List ℕ) (words all : List (List ℕ)) (x : A) → all ≡ word ∷ words → judge word ≡ Ok x
+  pub each_next : (front : List A) (word : List ℕ) (words all : List (List ℕ)) (x : A) → all ≡ word ∷ words → judge word ≡ Ok x
       → with_front front (each judge all) ≡ with_front (front ++ x ∷ []) (each judge words)
-  each-next front word words all x all_is e = rw (all_is, e) (joined front x (each judge words))
+  each_next front word words all x all_is e = rw (all_is, e) (joined front x (each judge words))
 
-  pub each-stop : (front : List A) (word : List ℕ) (words all : List (List ℕ)) (kind : ScriptKind) → all ≡ word ∷ words → judge word ≡ Err kind
+  pub each_stop : (front : List A) (word : List ℕ) (words all : List (List ℕ)) (kind : ScriptKind) → all ≡ word ∷ words → judge word ≡ Err kind
       → with_front front (each judge all) ≡ Err kind
-  each-stop front word words all kind all_is e = rw (all_is, e) refl
+  each_stop front word words all kind all_is e = rw (all_is, e) refl
 
-  pub each-end : (front : List A) (all : List (List ℕ)) → all ≡ [] → with_front front (each judge all) ≡ Ok front
-  each-end front all all_is = rw (all_is, append-nil) refl
+  pub each_end : (front : List A) (all : List (List ℕ)) → all ≡ [] → with_front front (each judge all) ≡ Ok front
+  each_end front all all_is = rw (all_is, append-nil) refl

@@ -10,8 +10,8 @@ use Rattle.script_text.specs.Words.{is_printable, words_of}
 use Rattle.script_text.specs.Spelled.{SpellsHead}
 use Rattle.script_text.specs.Judged.{Judged, version_in, seqs_in, shards_in, window_in, clients_in, consumers_in}
 use Rattle.script_text.specs.Reading.{Refusal, on_line, due_line, head_in}
-use Rattle.script_text.proofs.NumberLemmas.{from_to-is, from_to-true}
-use Rattle.script_text.proofs.HeadSpelled.{version_in-ok, version_in-back, seqs_in-ok, seqs_in-back, majority_is, majority_true, shards_in-ok, shards_in-back, window_in-ok, window_in-back, clients_in-ok, clients_in-back, consumers_in-ok, consumers_in-back}
+use Rattle.script_text.proofs.NumberLemmas.{from_to_is, from_to_true}
+use Rattle.script_text.proofs.HeadSpelled.{version_in_ok, version_in_back, seqs_in_ok, seqs_in_back, majority_is, majority_true, shards_in_ok, shards_in_back, window_in_ok, window_in_back, clients_in_ok, clients_in_back, consumers_in_ok, consumers_in_back}
 
 -- a line is printable
 abbrev pub IsPlain : Line → Type 0
@@ -25,16 +25,16 @@ pub record HasHead (due : List ℕ) (lines : List Line) (c : Config) (rest : Lis
   pub valid : IsValidConfig c
 
 module _ {A : Type 0} (end : ℕ) (judge : List ℕ → Judged A) where
-  pub on_line-ok : (number : ℕ) (j : Judged A) (x : A) → on_line number j ≡ Ok x → j ≡ Ok x
-  on_line-ok number (Ok y) x e = ap Ok (ok_is Refusal y x e)
-  on_line-ok number (Err kind) x e = absurd cc
+  pub on_line_ok : (number : ℕ) (j : Judged A) (x : A) → on_line number j ≡ Ok x → j ≡ Ok x
+  on_line_ok number (Ok y) x e = ap Ok (ok_is Refusal y x e)
+  on_line_ok number (Err kind) x e = absurd cc
 
-  pub due_line-ok : (lines : List Line) (p : A × List Line) → due_line end judge lines ≡ Ok p → (l : Line) × (lines ≡ l ∷ p.1) × (judge l.bytes ≡ Ok p.0)
-  due_line-ok [] p e = absurd cc
-  due_line-ok (l ∷ ls) p e =
+  pub due_line_ok : (lines : List Line) (p : A × List Line) → due_line end judge lines ≡ Ok p → (l : Line) × (lines ≡ l ∷ p.1) × (judge l.bytes ≡ Ok p.0)
+  due_line_ok [] p e = absurd cc
+  due_line_ok (l ∷ ls) p e =
       let a = bind_ok (on_line l.number (judge l.bytes)) (λ value. Ok (value, ls)) p e in
       let same : (a.0, ls) ≡ p = ok_is Refusal (a.0, ls) p a.2 in
-      (l, ap (λ (q : A × List Line). l ∷ q.1) same, on_line-ok l.number (judge l.bytes) a.0 a.1 ∙ ap (λ (q : A × List Line). Ok q.0) same)
+      (l, ap (λ (q : A × List Line). l ∷ q.1) same, on_line_ok l.number (judge l.bytes) a.0 a.1 ∙ ap (λ (q : A × List Line). Ok q.0) same)
 
 -- what is left of the head, from a line on
 abbrev pub cluster : ℕ → ℕ → ℕ × List Row → List ℕ → ℕ × AppKind → Config
@@ -61,14 +61,14 @@ six_lines : (due : List ℕ) (l1 l2 l3 l4 l5 l6 : Line) (rest : List Line) (vers
     → clients_in window.1 l5.bytes ≡ Ok homes → consumers_in l6.bytes ≡ Ok consumers
     → HasHead due (l1 ∷ l2 ∷ l3 ∷ l4 ∷ l5 ∷ l6 ∷ rest) (cluster seqs shards window homes consumers) rest
 six_lines due l1 l2 l3 l4 l5 l6 rest version seqs shards window homes consumers e1 e2 e3 e4 e5 e6 =
-    let h1 = version_in-ok due l1.bytes version e1 in
-    let h2 = seqs_in-ok l2.bytes seqs e2 in
-    let h3 = shards_in-ok l3.bytes shards e3 in
-    let h4 = window_in-ok shards l4.bytes window e4 in
-    let h5 = clients_in-ok window.1 l5.bytes homes e5 in
-    let h6 = consumers_in-ok l6.bytes consumers e6 in
-    let b3 = from_to-is 1 6 shards h3.2 in
-    let b6 = from_to-is 1 4 consumers.0 h6.2 in
+    let h1 = version_in_ok due l1.bytes version e1 in
+    let h2 = seqs_in_ok l2.bytes seqs e2 in
+    let h3 = shards_in_ok l3.bytes shards e3 in
+    let h4 = window_in_ok shards l4.bytes window e4 in
+    let h5 = clients_in_ok window.1 l5.bytes homes e5 in
+    let h6 = consumers_in_ok l6.bytes consumers e6 in
+    let b3 = from_to_is 1 6 shards h3.2 in
+    let b6 = from_to_is 1 4 consumers.0 h6.2 in
     record {
       rest_is = refl;
       plain = (h1.0, (h2.0, (h3.0, (h4.0, (h5.0, (h6.0, tt))))));
@@ -88,21 +88,21 @@ six_lines due l1 l2 l3 l4 l5 l6 rest version seqs shards window homes consumers 
     }
 
 -- what is judged a head is the head of a cluster
-pub head_in-ok : (due : List ℕ) (end : ℕ) (lines : List Line) (p : Config × List Line) → head_in due end lines ≡ Ok p → HasHead due lines p.0 p.1
+pub head_in_ok : (due : List ℕ) (end : ℕ) (lines : List Line) (p : Config × List Line) → head_in due end lines ≡ Ok p → HasHead due lines p.0 p.1
 unfolding head_in
-head_in-ok due end lines p e =
+head_in_ok due end lines p e =
     let b1 = bind_ok (due_line end (version_in due) lines) (λ x. from_second end x.1) p e in
     let b2 = bind_ok (due_line end seqs_in b1.0.1) (λ x. from_third end x.0 x.1) p b1.2 in
     let b3 = bind_ok (due_line end shards_in b2.0.1) (λ x. from_fourth end b2.0.0 x.0 x.1) p b2.2 in
     let b4 = bind_ok (due_line end (window_in b3.0.0) b3.0.1) (λ x. from_fifth end b2.0.0 b3.0.0 x.0 x.1) p b3.2 in
     let b5 = bind_ok (due_line end (clients_in b4.0.0.1) b4.0.1) (λ x. from_sixth end b2.0.0 b3.0.0 b4.0.0 x.0 x.1) p b4.2 in
     let b6 = bind_ok (due_line end consumers_in b5.0.1) (λ x. Ok (cluster b2.0.0 b3.0.0 b4.0.0 b5.0.0 x.0, x.1)) p b5.2 in
-    let l1 = due_line-ok end (version_in due) lines b1.0 b1.1 in
-    let l2 = due_line-ok end seqs_in b1.0.1 b2.0 b2.1 in
-    let l3 = due_line-ok end shards_in b2.0.1 b3.0 b3.1 in
-    let l4 = due_line-ok end (window_in b3.0.0) b3.0.1 b4.0 b4.1 in
-    let l5 = due_line-ok end (clients_in b4.0.0.1) b4.0.1 b5.0 b5.1 in
-    let l6 = due_line-ok end consumers_in b5.0.1 b6.0 b6.1 in
+    let l1 = due_line_ok end (version_in due) lines b1.0 b1.1 in
+    let l2 = due_line_ok end seqs_in b1.0.1 b2.0 b2.1 in
+    let l3 = due_line_ok end shards_in b2.0.1 b3.0 b3.1 in
+    let l4 = due_line_ok end (window_in b3.0.0) b3.0.1 b4.0 b4.1 in
+    let l5 = due_line_ok end (clients_in b4.0.0.1) b4.0.1 b5.0 b5.1 in
+    let l6 = due_line_ok end consumers_in b5.0.1 b6.0 b6.1 in
     let lines_are : lines ≡ l1.0 ∷ l2.0 ∷ l3.0 ∷ l4.0 ∷ l5.0 ∷ l6.0 ∷ b6.0.1 = l1.1 ∙ ap (λ (t : List Line). l1.0 ∷ t) (l2.1 ∙ ap (λ (t : List Line). l2.0 ∷ t) (l3.1 ∙ ap (λ (t : List Line). l3.0 ∷ t) (l4.1 ∙ ap (λ (t : List Line). l4.0 ∷ t) (l5.1 ∙ ap (λ (t : List Line). l5.0 ∷ t) l6.1)))) in
     let facts : HasHead due (l1.0 ∷ l2.0 ∷ l3.0 ∷ l4.0 ∷ l5.0 ∷ l6.0 ∷ b6.0.1) (cluster b2.0.0 b3.0.0 b4.0.0 b5.0.0 b6.0.0) b6.0.1 =
     six_lines due l1.0 l2.0 l3.0 l4.0 l5.0 l6.0 b6.0.1 b1.0.0 b2.0.0 b3.0.0 b4.0.0 b5.0.0 b6.0.0 l1.2 l2.2 l3.2 l4.2 l5.2 l6.2 in
@@ -111,21 +111,21 @@ head_in-ok due end lines p e =
     subst Q (ok_is Refusal (cluster b2.0.0 b3.0.0 b4.0.0 b5.0.0 b6.0.0, b6.0.1) p b6.2) (subst P (sym lines_are) facts)
 
 -- the head of a cluster is judged one
-pub head_in-back : (due : List ℕ) (end : ℕ) (lines : List Line) (c : Config) → AllByRecursion IsPlain (take 6 lines)
+pub head_in_back : (due : List ℕ) (end : ℕ) (lines : List Line) (c : Config) → AllByRecursion IsPlain (take 6 lines)
     → SpellsHead due (map (λ (l : Line). words_of l.bytes) (take 6 lines)) c → IsValidConfig c → head_in due end lines ≡ Ok (c, drop 6 lines)
 unfolding head_in
-head_in-back due end [] c p h v = absurd h
-head_in-back due end (l1 ∷ []) c p h v = absurd h
-head_in-back due end (l1 ∷ l2 ∷ []) c p h v = absurd h
-head_in-back due end (l1 ∷ l2 ∷ l3 ∷ []) c p h v = absurd h
-head_in-back due end (l1 ∷ l2 ∷ l3 ∷ l4 ∷ []) c p h v = absurd h
-head_in-back due end (l1 ∷ l2 ∷ l3 ∷ l4 ∷ l5 ∷ []) c p h v = absurd h
-head_in-back due end (l1 ∷ l2 ∷ l3 ∷ l4 ∷ l5 ∷ l6 ∷ rest) c p h v =
+head_in_back due end [] c p h v = absurd h
+head_in_back due end (l1 ∷ []) c p h v = absurd h
+head_in_back due end (l1 ∷ l2 ∷ []) c p h v = absurd h
+head_in_back due end (l1 ∷ l2 ∷ l3 ∷ []) c p h v = absurd h
+head_in_back due end (l1 ∷ l2 ∷ l3 ∷ l4 ∷ []) c p h v = absurd h
+head_in_back due end (l1 ∷ l2 ∷ l3 ∷ l4 ∷ l5 ∷ []) c p h v = absurd h
+head_in_back due end (l1 ∷ l2 ∷ l3 ∷ l4 ∷ l5 ∷ l6 ∷ rest) c p h v =
     rw (
-      version_in-back due l1.bytes p.0 h.0,
-      seqs_in-back l2.bytes c.seqs p.1.0 h.1 (majority_true c.seqs v.seqs),
-      shards_in-back l3.bytes c.shards p.1.1.0 h.2 (from_to-true 1 6 c.shards v.some_shard v.most_shards),
-      window_in-back c.shards l4.bytes c.rounds c.table p.1.1.1.0 h.3 v.rounds v.rows,
-      clients_in-back c.table l5.bytes c.homes p.1.1.1.1.0 h.4 v.homes v.some_client v.most_clients,
-      consumers_in-back l6.bytes c.consumers c.app p.1.1.1.1.1.0 h.5 (from_to-true 1 4 c.consumers v.some_consumer v.most_consumers),
+      version_in_back due l1.bytes p.0 h.0,
+      seqs_in_back l2.bytes c.seqs p.1.0 h.1 (majority_true c.seqs v.seqs),
+      shards_in_back l3.bytes c.shards p.1.1.0 h.2 (from_to_true 1 6 c.shards v.some_shard v.most_shards),
+      window_in_back c.shards l4.bytes c.rounds c.table p.1.1.1.0 h.3 v.rounds v.rows,
+      clients_in_back c.table l5.bytes c.homes p.1.1.1.1.0 h.4 v.homes v.some_client v.most_clients,
+      consumers_in_back l6.bytes c.consumers c.app p.1.1.1.1.1.0 h.5 (from_to_true 1 4 c.consumers v.some_consumer v.most_consumers),
     ) refl

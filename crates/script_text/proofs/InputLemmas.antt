@@ -15,17 +15,17 @@ joined : (front : List Input) (x : Input) (r : Result (List Input) Refusal) → 
 joined front x (Ok rest) = ap Ok (sym (append_assoc front (x ∷ []) rest))
 joined front x (Err refusal) = refl
 
-pub inputs-next : (c : Config) (front : List Input) (line : Line) (rest all : List Line) (x : Input) → all ≡ line ∷ rest → input_in c line.bytes ≡ Ok x
+pub inputs_next : (c : Config) (front : List Input) (line : Line) (rest all : List Line) (x : Input) → all ≡ line ∷ rest → input_in c line.bytes ≡ Ok x
     → onto front (inputs_in c all) ≡ onto (front ++ x ∷ []) (inputs_in c rest)
-inputs-next c front line rest all x all_is e = rw (all_is, e) (joined front x (inputs_in c rest))
+inputs_next c front line rest all x all_is e = rw (all_is, e) (joined front x (inputs_in c rest))
 
-pub inputs-stop : (c : Config) (front : List Input) (line : Line) (rest all : List Line) (kind : ScriptKind) → all ≡ line ∷ rest
+pub inputs_stop : (c : Config) (front : List Input) (line : Line) (rest all : List Line) (kind : ScriptKind) → all ≡ line ∷ rest
     → input_in c line.bytes ≡ Err kind → onto front (inputs_in c all) ≡ Err (line.number, kind)
-inputs-stop c front line rest all kind all_is e = rw (all_is, e) refl
+inputs_stop c front line rest all kind all_is e = rw (all_is, e) refl
 
-pub inputs-end : (c : Config) (front : List Input) (all : List Line) → all ≡ [] → onto front (inputs_in c all) ≡ Ok front
-inputs-end c front all all_is = rw (all_is, append-nil) refl
+pub inputs_end : (c : Config) (front : List Input) (all : List Line) → all ≡ [] → onto front (inputs_in c all) ≡ Ok front
+inputs_end c front all all_is = rw (all_is, append-nil) refl
 
-pub numbers-next : (front : List ℕ) (line : Line) (rest all : List Line) → all ≡ line ∷ rest
+pub numbers_next : (front : List ℕ) (line : Line) (rest all : List Line) → all ≡ line ∷ rest
     → front ++ numbers_of all ≡ (front ++ line.number ∷ []) ++ numbers_of rest
-numbers-next front line rest all all_is = rw all_is (sym (append_assoc front (line.number ∷ []) (numbers_of rest)))
+numbers_next front line rest all all_is = rw all_is (sym (append_assoc front (line.number ∷ []) (numbers_of rest)))

@@ -59,28 +59,28 @@ found_at word node m ms false e named (inl same) rest =
     let yes : is_word (node_name m) word ≡ true = (bytes_eq-Decides word (node_name m)).1 (named ∙ ap node_name (sym same)) in cc
 found_at word node m ms false e named (inr among) rest = rest among
 
-find-among : (word : List ℕ) (node : NodeId) (ms : List NodeId) → word ≡ node_name node → Among node ms → find (λ n. is_word (node_name n) word) ms ≡ Some node
-find-among word node [] named among = absurd among
-find-among word node (m ∷ ms) named among = found_at word node m ms (is_word (node_name m) word) refl named among (find-among word node ms named)
+find_among : (word : List ℕ) (node : NodeId) (ms : List NodeId) → word ≡ node_name node → Among node ms → find (λ n. is_word (node_name n) word) ms ≡ Some node
+find_among word node [] named among = absurd among
+find_among word node (m ∷ ms) named among = found_at word node m ms (is_word (node_name m) word) refl named among (find_among word node ms named)
 
 -- a node of this name is read
-pub node_in-among : (word : List ℕ) (node : NodeId) (ms : List NodeId) → word ≡ node_name node → Among node ms → node_in ms word ≡ Ok node
+pub node_in_among : (word : List ℕ) (node : NodeId) (ms : List NodeId) → word ≡ node_name node → Among node ms → node_in ms word ≡ Ok node
 unfolding node_in
-node_in-among word node ms named among = ap (some_or kinds.Node) (find-among word node ms named among)
+node_in_among word node ms named among = ap (some_or kinds.Node) (find_among word node ms named among)
 
 not_at : (word : List ℕ) (m : NodeId) (ms : List NodeId) (b : Bool) → is_word (node_name m) word ≡ b → (word ≡ node_name m → ⊥)
     → find (λ n. is_word (node_name n) word) ms ≡ None → cond b (Some m) (find (λ n. is_word (node_name n) word) ms) ≡ None
 not_at word m ms true e miss rest = absurd (miss ((bytes_eq-Decides word (node_name m)).0 e))
 not_at word m ms false e miss rest = rest
 
-find-none : (word : List ℕ) (ms : List NodeId) → ((n : NodeId) → Among n ms → word ≡ node_name n → ⊥) → find (λ n. is_word (node_name n) word) ms ≡ None
-find-none word [] miss = refl
-find-none word (m ∷ ms) miss = not_at word m ms (is_word (node_name m) word) refl (miss m (inl refl)) (find-none word ms (λ n among. miss n (inr among)))
+find_none : (word : List ℕ) (ms : List NodeId) → ((n : NodeId) → Among n ms → word ≡ node_name n → ⊥) → find (λ n. is_word (node_name n) word) ms ≡ None
+find_none word [] miss = refl
+find_none word (m ∷ ms) miss = not_at word m ms (is_word (node_name m) word) refl (miss m (inl refl)) (find_none word ms (λ n among. miss n (inr among)))
 
 -- where no node has it, the word is refused
-pub node_in-none : (word : List ℕ) (ms : List NodeId) → ((n : NodeId) → Among n ms → word ≡ node_name n → ⊥) → node_in ms word ≡ Err kinds.Node
+pub node_in_none : (word : List ℕ) (ms : List NodeId) → ((n : NodeId) → Among n ms → word ≡ node_name n → ⊥) → node_in ms word ≡ Err kinds.Node
 unfolding node_in
-node_in-none word ms miss = ap (some_or kinds.Node) (find-none word ms miss)
+node_in_none word ms miss = ap (some_or kinds.Node) (find_none word ms miss)
 
 found_is : (word : List ℕ) (node m : NodeId) (ms : List NodeId) (b : Bool) → is_word (node_name m) word ≡ b
     → (find (λ n. is_word (node_name n) word) ms ≡ Some node → (word ≡ node_name node) × Among node ms)
@@ -89,34 +89,34 @@ found_is word node m ms true e rest found =
     let same : m ≡ node = cc in ((bytes_eq-Decides word (node_name m)).0 e ∙ ap node_name same, inl same)
 found_is word node m ms false e rest found = let later = rest found in (later.0, inr later.1)
 
-find-is : (word : List ℕ) (node : NodeId) (ms : List NodeId) → find (λ n. is_word (node_name n) word) ms ≡ Some node → (word ≡ node_name node) × Among node ms
-find-is word node [] found = absurd cc
-find-is word node (m ∷ ms) found = found_is word node m ms (is_word (node_name m) word) refl (find-is word node ms) found
+find_is : (word : List ℕ) (node : NodeId) (ms : List NodeId) → find (λ n. is_word (node_name n) word) ms ≡ Some node → (word ≡ node_name node) × Among node ms
+find_is word node [] found = absurd cc
+find_is word node (m ∷ ms) found = found_is word node m ms (is_word (node_name m) word) refl (find_is word node ms) found
 
-some_or-ok : (kind : ScriptKind) (o : Option NodeId) (node : NodeId) → some_or kind o ≡ Ok node → o ≡ Some node
-some_or-ok kind None node e = absurd cc
-some_or-ok kind (Some n) node e = cc
+some_or_ok : (kind : ScriptKind) (o : Option NodeId) (node : NodeId) → some_or kind o ≡ Ok node → o ≡ Some node
+some_or_ok kind None node e = absurd cc
+some_or_ok kind (Some n) node e = cc
 
 -- a node that is read is one of them, with this name
-pub node_in-ok : (word : List ℕ) (node : NodeId) (ms : List NodeId) → node_in ms word ≡ Ok node → (word ≡ node_name node) × Among node ms
+pub node_in_ok : (word : List ℕ) (node : NodeId) (ms : List NodeId) → node_in ms word ≡ Ok node → (word ≡ node_name node) × Among node ms
 unfolding node_in
-node_in-ok word node ms e = find-is word node ms (some_or-ok kinds.Node (find (λ n. is_word (node_name n) word) ms) node e)
+node_in_ok word node ms e = find_is word node ms (some_or_ok kinds.Node (find (λ n. is_word (node_name n) word) ms) node e)
 
 -- ---- the nodes of a cluster
 
-among-left : (n : NodeId) (xs ys : List NodeId) → Among n xs → Among n (xs ++ ys)
-among-left n [] ys among = absurd among
-among-left n (x ∷ xs) ys (inl same) = inl same
-among-left n (x ∷ xs) ys (inr among) = inr (among-left n xs ys among)
+among_left : (n : NodeId) (xs ys : List NodeId) → Among n xs → Among n (xs ++ ys)
+among_left n [] ys among = absurd among
+among_left n (x ∷ xs) ys (inl same) = inl same
+among_left n (x ∷ xs) ys (inr among) = inr (among_left n xs ys among)
 
-among-right : (n : NodeId) (xs ys : List NodeId) → Among n ys → Among n (xs ++ ys)
-among-right n [] ys among = among
-among-right n (x ∷ xs) ys among = inr (among-right n xs ys among)
+among_right : (n : NodeId) (xs ys : List NodeId) → Among n ys → Among n (xs ++ ys)
+among_right n [] ys among = among
+among_right n (x ∷ xs) ys among = inr (among_right n xs ys among)
 
-among-split : (n : NodeId) (xs ys : List NodeId) → Among n (xs ++ ys) → Among n xs ⊎ Among n ys
-among-split n [] ys among = inr among
-among-split n (x ∷ xs) ys (inl same) = inl (inl same)
-among-split n (x ∷ xs) ys (inr among) = elim (among-split n xs ys among) [ inl left ↦ inl (inr left) | inr right ↦ inr right ]
+among_split : (n : NodeId) (xs ys : List NodeId) → Among n (xs ++ ys) → Among n xs ⊎ Among n ys
+among_split n [] ys among = inr among
+among_split n (x ∷ xs) ys (inl same) = inl (inl same)
+among_split n (x ∷ xs) ys (inr among) = elim (among_split n xs ys among) [ inl left ↦ inl (inr left) | inr right ↦ inr right ]
 
 -- numbered on from a number
 numbered : (make : ℕ → NodeId) (from count k : ℕ) → from ≤ k → k < from + count → Among (make k) (map make (range_with_len from count))
@@ -152,48 +152,48 @@ shards n from (suc count) (inr (inl same)) = (from, sides.Backup, omega arith, s
 shards n from (suc count) (inr (inr among)) = let k = shards n (from + 1) count among in (k.0, k.1, omega (arith, k.2), k.3)
 
 -- the sequencers of a cluster
-pub sequencer-among : (c : Config) (n : NodeId) → IsSequencerOf c n → Among n (sequencers_of c)
-sequencer-among c (nodes.Seq k) h = numbered nodes.Seq 0 c.seqs k (omega arith) (omega (arith, h))
-sequencer-among c (nodes.Shard k side) h = absurd h
-sequencer-among c (nodes.Client k) h = absurd h
-sequencer-among c (nodes.Consumer k) h = absurd h
+pub sequencer_among : (c : Config) (n : NodeId) → IsSequencerOf c n → Among n (sequencers_of c)
+sequencer_among c (nodes.Seq k) h = numbered nodes.Seq 0 c.seqs k (omega arith) (omega (arith, h))
+sequencer_among c (nodes.Shard k side) h = absurd h
+sequencer_among c (nodes.Client k) h = absurd h
+sequencer_among c (nodes.Consumer k) h = absurd h
 
-pub among-sequencers : (c : Config) (n : NodeId) → Among n (sequencers_of c) → IsSequencerOf c n
-among-sequencers c n among = let k = numbers nodes.Seq n 0 c.seqs among in subst (IsSequencerOf c) k.2 (omega (arith, k.1))
+pub among_sequencers : (c : Config) (n : NodeId) → Among n (sequencers_of c) → IsSequencerOf c n
+among_sequencers c n among = let k = numbers nodes.Seq n 0 c.seqs among in subst (IsSequencerOf c) k.2 (omega (arith, k.1))
 
 -- all nodes of a cluster
-pub node-among : (c : Config) (n : NodeId) → IsNodeOf c n → Among n (nodes_of c)
-node-among c (nodes.Seq k) h =
-    among-left (nodes.Seq k) (sequencers_of c) (all_replicas_of c ++ (clients_of c ++ consumers_of c)) (numbered nodes.Seq 0 c.seqs k (omega arith) (omega (arith, h)))
-node-among c (nodes.Shard k side) h =
-    among-right (nodes.Shard k side) (sequencers_of c) (all_replicas_of c ++ (clients_of c ++ consumers_of c))
-    (among-left (nodes.Shard k side) (all_replicas_of c) (clients_of c ++ consumers_of c) (replicas_at 0 c.shards k side (omega arith) (omega (arith, h))))
-node-among c (nodes.Client k) h =
-    among-right (nodes.Client k) (sequencers_of c) (all_replicas_of c ++ (clients_of c ++ consumers_of c))
-    (among-right (nodes.Client k) (all_replicas_of c) (clients_of c ++ consumers_of c)
-    (among-left (nodes.Client k) (clients_of c) (consumers_of c) (numbered nodes.Client 0 (length c.homes) k (omega arith) (omega (arith, h)))))
-node-among c (nodes.Consumer k) h =
-    among-right (nodes.Consumer k) (sequencers_of c) (all_replicas_of c ++ (clients_of c ++ consumers_of c))
-    (among-right (nodes.Consumer k) (all_replicas_of c) (clients_of c ++ consumers_of c)
-    (among-right (nodes.Consumer k) (clients_of c) (consumers_of c) (numbered nodes.Consumer 0 c.consumers k (omega arith) (omega (arith, h)))))
+pub node_among : (c : Config) (n : NodeId) → IsNodeOf c n → Among n (nodes_of c)
+node_among c (nodes.Seq k) h =
+    among_left (nodes.Seq k) (sequencers_of c) (all_replicas_of c ++ (clients_of c ++ consumers_of c)) (numbered nodes.Seq 0 c.seqs k (omega arith) (omega (arith, h)))
+node_among c (nodes.Shard k side) h =
+    among_right (nodes.Shard k side) (sequencers_of c) (all_replicas_of c ++ (clients_of c ++ consumers_of c))
+    (among_left (nodes.Shard k side) (all_replicas_of c) (clients_of c ++ consumers_of c) (replicas_at 0 c.shards k side (omega arith) (omega (arith, h))))
+node_among c (nodes.Client k) h =
+    among_right (nodes.Client k) (sequencers_of c) (all_replicas_of c ++ (clients_of c ++ consumers_of c))
+    (among_right (nodes.Client k) (all_replicas_of c) (clients_of c ++ consumers_of c)
+    (among_left (nodes.Client k) (clients_of c) (consumers_of c) (numbered nodes.Client 0 (length c.homes) k (omega arith) (omega (arith, h)))))
+node_among c (nodes.Consumer k) h =
+    among_right (nodes.Consumer k) (sequencers_of c) (all_replicas_of c ++ (clients_of c ++ consumers_of c))
+    (among_right (nodes.Consumer k) (all_replicas_of c) (clients_of c ++ consumers_of c)
+    (among_right (nodes.Consumer k) (clients_of c) (consumers_of c) (numbered nodes.Consumer 0 c.consumers k (omega arith) (omega (arith, h)))))
 
 last_two : (c : Config) (n : NodeId) → Among n (clients_of c ++ consumers_of c) → IsNodeOf c n
 last_two c n among =
-    elim (among-split n (clients_of c) (consumers_of c) among) [
+    elim (among_split n (clients_of c) (consumers_of c) among) [
       | inl here ↦ let k = numbers nodes.Client n 0 (length c.homes) here in subst (IsNodeOf c) k.2 (omega (arith, k.1))
       | inr here ↦ let k = numbers nodes.Consumer n 0 c.consumers here in subst (IsNodeOf c) k.2 (omega (arith, k.1))
     ]
 
 last_three : (c : Config) (n : NodeId) → Among n (all_replicas_of c ++ (clients_of c ++ consumers_of c)) → IsNodeOf c n
 last_three c n among =
-    elim (among-split n (all_replicas_of c) (clients_of c ++ consumers_of c) among) [
+    elim (among_split n (all_replicas_of c) (clients_of c ++ consumers_of c) among) [
       | inl here ↦ let k = shards n 0 c.shards here in subst (IsNodeOf c) k.3 (omega (arith, k.2))
       | inr rest ↦ last_two c n rest
     ]
 
-pub among-nodes : (c : Config) (n : NodeId) → Among n (nodes_of c) → IsNodeOf c n
-among-nodes c n among =
-    elim (among-split n (sequencers_of c) (all_replicas_of c ++ (clients_of c ++ consumers_of c)) among) [
+pub among_nodes : (c : Config) (n : NodeId) → Among n (nodes_of c) → IsNodeOf c n
+among_nodes c n among =
+    elim (among_split n (sequencers_of c) (all_replicas_of c ++ (clients_of c ++ consumers_of c)) among) [
       | inl here ↦ let k = numbers nodes.Seq n 0 c.seqs here in subst (IsNodeOf c) k.2 (omega (arith, k.1))
       | inr rest ↦ last_three c n rest
     ]
@@ -217,18 +217,18 @@ sequencer_node c (nodes.Consumer k) h = absurd h
 abbrev KnowsNames : List ℕ → Option NodeId → Type 0
 KnowsNames word found = (n : NodeId) → IsValidNode n → word ≡ node_name n → found ≡ Some n
 
-pub node-found : (c : Config) (word : List ℕ) (node : NodeId) → word ≡ node_name node → IsNodeOf c node → node_in (nodes_of c) word ≡ Ok node
-node-found c word node named h = node_in-among word node (nodes_of c) named (node-among c node h)
+pub node_found : (c : Config) (word : List ℕ) (node : NodeId) → word ≡ node_name node → IsNodeOf c node → node_in (nodes_of c) word ≡ Ok node
+node_found c word node named h = node_in_among word node (nodes_of c) named (node_among c node h)
 
-pub node-missed : (c : Config) (word : List ℕ) (found : Option NodeId) → IsValidConfig c → KnowsNames word found
+pub node_missed : (c : Config) (word : List ℕ) (found : Option NodeId) → IsValidConfig c → KnowsNames word found
     → ((n : NodeId) → found ≡ Some n → IsNodeOf c n → ⊥) → node_in (nodes_of c) word ≡ Err kinds.Node
-node-missed c word found v knows miss =
-    node_in-none word (nodes_of c) (λ n among named. let h : IsNodeOf c n = among-nodes c n among in miss n (knows n (valid_node c n v h) named) h)
+node_missed c word found v knows miss =
+    node_in_none word (nodes_of c) (λ n among named. let h : IsNodeOf c n = among_nodes c n among in miss n (knows n (valid_node c n v h) named) h)
 
-pub sequencer-found : (c : Config) (word : List ℕ) (node : NodeId) → word ≡ node_name node → IsSequencerOf c node → node_in (sequencers_of c) word ≡ Ok node
-sequencer-found c word node named h = node_in-among word node (sequencers_of c) named (sequencer-among c node h)
+pub sequencer_found : (c : Config) (word : List ℕ) (node : NodeId) → word ≡ node_name node → IsSequencerOf c node → node_in (sequencers_of c) word ≡ Ok node
+sequencer_found c word node named h = node_in_among word node (sequencers_of c) named (sequencer_among c node h)
 
-pub sequencer-missed : (c : Config) (word : List ℕ) (found : Option NodeId) → IsValidConfig c → KnowsNames word found
+pub sequencer_missed : (c : Config) (word : List ℕ) (found : Option NodeId) → IsValidConfig c → KnowsNames word found
     → ((n : NodeId) → found ≡ Some n → IsSequencerOf c n → ⊥) → node_in (sequencers_of c) word ≡ Err kinds.Node
-sequencer-missed c word found v knows miss =
-    node_in-none word (sequencers_of c) (λ n among named. let h : IsSequencerOf c n = among-sequencers c n among in miss n (knows n (valid_node c n v (sequencer_node c n h)) named) h)
+sequencer_missed c word found v knows miss =
+    node_in_none word (sequencers_of c) (λ n among named. let h : IsSequencerOf c n = among_sequencers c n among in miss n (knows n (valid_node c n v (sequencer_node c n h)) named) h)

@@ -9,7 +9,7 @@ use Rattle.script_text.specs.Lines.{counts}
 use Rattle.script_text.specs.Words.{words_of}
 use Rattle.script_text.specs.Spelled.{app_name, SpellsHead}
 use Rattle.script_text.proofs.TableLemmas.{shard_of_row}
-use Rattle.script_text.proofs.PlainWords.{IsPlainWord, sentence, words_of-sentence, printable-sentence, counts-sentence, plain_decimal, spelled_decimal, plain_decimals, spelled_decimals, row_word}
+use Rattle.script_text.proofs.PlainWords.{IsPlainWord, sentence, words_of_sentence, printable_sentence, counts_sentence, plain_decimal, spelled_decimal, plain_decimals, spelled_decimals, row_word}
 use Rattle.script_text.proofs.PlainTexts.{ArePrintable, AllCount}
 use Rattle.script_text.proofs.PlainInputs.{number_line, rows_small, plain_rows, spelled_rows}
 
@@ -74,22 +74,22 @@ plain_head due c w counted v =
     let p6 : AllByRecursion IsPlainWord (codes "consumers" ∷ decimal c.consumers ∷ app_name c.app ∷ []) = (consumers_word, (plain_decimal c.consumers consumers, (app_word c.app, tt))) in
     record {
       printable = (
-        printable-sentence (due ∷ decimal 1 ∷ []) p1,
+        printable_sentence (due ∷ decimal 1 ∷ []) p1,
         (
-          printable-sentence (codes "seqs" ∷ decimal c.seqs ∷ []) p2,
+          printable_sentence (codes "seqs" ∷ decimal c.seqs ∷ []) p2,
           (
-            printable-sentence (codes "shards" ∷ decimal c.shards ∷ []) p3,
-            (printable-sentence (window_words c) p4, (printable-sentence (clients_words c) p5, (printable-sentence (codes "consumers" ∷ decimal c.consumers ∷ app_name c.app ∷ []) p6, tt))),
+            printable_sentence (codes "shards" ∷ decimal c.shards ∷ []) p3,
+            (printable_sentence (window_words c) p4, (printable_sentence (clients_words c) p5, (printable_sentence (codes "consumers" ∷ decimal c.consumers ∷ app_name c.app ∷ []) p6, tt))),
           ),
         ),
       );
-      counted = (counts-sentence due (decimal 1 ∷ []) counted, (refl, (refl, (refl, (counts-sentence (codes "clients") (map decimal c.homes) refl, (refl, tt))))));
+      counted = (counts_sentence due (decimal 1 ∷ []) counted, (refl, (refl, (refl, (counts_sentence (codes "clients") (map decimal c.homes) refl, (refl, tt))))));
       spelled = (
         number_line due 1 w (omega arith),
         number_line (codes "seqs") c.seqs seqs_word seqs,
         number_line (codes "shards") c.shards shards_word shards,
-        (decimal c.rounds ∷ map row_word c.table, words_of-sentence (window_words c) p4, (decimal c.rounds, map row_word c.table, refl, spelled_decimal c.rounds rounds, spelled_rows c.table table)),
-        (map decimal c.homes, words_of-sentence (clients_words c) p5, spelled_decimals c.homes homes),
-        (decimal c.consumers, words_of-sentence (codes "consumers" ∷ decimal c.consumers ∷ app_name c.app ∷ []) p6, spelled_decimal c.consumers consumers),
+        (decimal c.rounds ∷ map row_word c.table, words_of_sentence (window_words c) p4, (decimal c.rounds, map row_word c.table, refl, spelled_decimal c.rounds rounds, spelled_rows c.table table)),
+        (map decimal c.homes, words_of_sentence (clients_words c) p5, spelled_decimals c.homes homes),
+        (decimal c.consumers, words_of_sentence (codes "consumers" ∷ decimal c.consumers ∷ app_name c.app ∷ []) p6, spelled_decimal c.consumers consumers),
       );
     }

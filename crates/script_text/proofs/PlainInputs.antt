@@ -14,7 +14,7 @@ use Rattle.script_text.specs.Spelled.{SpellsNumber, SpellsRow, SpellsSubmit, Spe
 use Rattle.script_text.specs.Scripts.{IsSpellable}
 use Rattle.script_text.proofs.RowLemmas.{and_left, and_right}
 use Rattle.script_text.proofs.NodeLemmas.{valid_node, sequencer_node}
-use Rattle.script_text.proofs.PlainWords.{IsPlainWord, sentence, words_of-sentence, printable-append, printable-sentence, plain_decimal, spelled_decimal, plain_name, row_word, plain_row, spelled_row}
+use Rattle.script_text.proofs.PlainWords.{IsPlainWord, sentence, words_of_sentence, printable_append, printable_sentence, plain_decimal, spelled_decimal, plain_name, row_word, plain_row, spelled_row}
 use Rattle.script_text.proofs.PlainTexts.{IsLineOf}
 
 abbrev pub submit_text : ℕ → List ℕ → List ℕ
@@ -52,7 +52,7 @@ pub drain_word : IsPlainWord (codes "drain")
 drain_word = record { some = omega arith; letters = (refl, (refl, (refl, (refl, (refl, tt))))); printable = refl }
 
 pub number_line : (due : List ℕ) (n : ℕ) → IsPlainWord due → n < 10 ^ 18 → SpellsNumber due (words_of (sentence (due ∷ decimal n ∷ []))) n
-number_line due n w h = (decimal n, words_of-sentence (due ∷ decimal n ∷ []) (w, (plain_decimal n h, tt)), spelled_decimal n h)
+number_line due n w h = (decimal n, words_of_sentence (due ∷ decimal n ∷ []) (w, (plain_decimal n h, tt)), spelled_decimal n h)
 
 -- rows of a table
 pub rows_small : (rows : List Row) → list_all is_row rows ≡ true → AllByRecursion (λ (r : Row). (r.shard < 6) × (r.quota ≤ 64)) rows
@@ -85,35 +85,35 @@ submit_spelled by body h = record {
 
 pub submit_printable : (by : ℕ) (body : List ℕ) → by < 10 ^ 18 → is_printable body ≡ true → is_printable (submit_text by body) ≡ true
 submit_printable by body h s =
-    printable-append (codes "submit") (32 ∷ (decimal by ++ 32 ∷ body)) refl (printable-append (decimal by) (32 ∷ body) (plain_decimal by h).printable s)
+    printable_append (codes "submit") (32 ∷ (decimal by ++ 32 ∷ body)) refl (printable_append (decimal by) (32 ∷ body) (plain_decimal by h).printable s)
 
 pub input_line : (c : Config) → IsValidConfig c → (i : Input) → IsInputOf c i → IsSpellable i → IsLineOf SpellsInput (input_text i) i
 input_line c v (inputs.Submit client body) h s =
     let small : client < 10 ^ 18 = omega (arith, h.0, v.most_clients) in
     record { printable = submit_printable client body small s; counted = refl; spelled = submit_spelled client body small }
 input_line c v (inputs.Deliver number) h s = record {
-  printable = printable-sentence (codes "deliver" ∷ decimal number ∷ []) (deliver_word, (plain_decimal number s, tt));
+  printable = printable_sentence (codes "deliver" ∷ decimal number ∷ []) (deliver_word, (plain_decimal number s, tt));
   counted = refl;
   spelled = number_line (codes "deliver") number deliver_word s;
 }
 input_line c v (inputs.Lose number) h s = record {
-  printable = printable-sentence (codes "lose" ∷ decimal number ∷ []) (lose_word, (plain_decimal number s, tt));
+  printable = printable_sentence (codes "lose" ∷ decimal number ∷ []) (lose_word, (plain_decimal number s, tt));
   counted = refl;
   spelled = number_line (codes "lose") number lose_word s;
 }
 input_line c v (inputs.Tick node) h s =
     let name = plain_name node (valid_node c node v h) in
     record {
-      printable = printable-sentence (codes "tick" ∷ node_name node ∷ []) (tick_word, (name, tt));
+      printable = printable_sentence (codes "tick" ∷ node_name node ∷ []) (tick_word, (name, tt));
       counted = refl;
-      spelled = words_of-sentence (codes "tick" ∷ node_name node ∷ []) (tick_word, (name, tt));
+      spelled = words_of_sentence (codes "tick" ∷ node_name node ∷ []) (tick_word, (name, tt));
     }
 input_line c v (inputs.Restart node) h s =
     let name = plain_name node (valid_node c node v h) in
     record {
-      printable = printable-sentence (codes "restart" ∷ node_name node ∷ []) (restart_word, (name, tt));
+      printable = printable_sentence (codes "restart" ∷ node_name node ∷ []) (restart_word, (name, tt));
       counted = refl;
-      spelled = words_of-sentence (codes "restart" ∷ node_name node ∷ []) (restart_word, (name, tt));
+      spelled = words_of_sentence (codes "restart" ∷ node_name node ∷ []) (restart_word, (name, tt));
     }
 input_line c v (inputs.Command node (commands.Table rounds rows)) h s =
     let name = plain_name node (valid_node c node v (sequencer_node c node h.0)) in
@@ -122,22 +122,22 @@ input_line c v (inputs.Command node (commands.Table rounds rows)) h s =
     let words : List (List ℕ) = codes "table" ∷ node_name node ∷ decimal rounds ∷ map row_word rows in
     let plain : AllByRecursion IsPlainWord words = (table_word, (name, (plain_decimal rounds few, plain_rows rows small))) in
     record {
-      printable = printable-sentence words plain;
+      printable = printable_sentence words plain;
       counted = refl;
-      spelled = (decimal rounds ∷ map row_word rows, words_of-sentence words plain, (decimal rounds, map row_word rows, refl, spelled_decimal rounds few, spelled_rows rows small));
+      spelled = (decimal rounds ∷ map row_word rows, words_of_sentence words plain, (decimal rounds, map row_word rows, refl, spelled_decimal rounds few, spelled_rows rows small));
     }
 input_line c v (inputs.Command node (commands.Remove shard)) h s =
     let name = plain_name node (valid_node c node v (sequencer_node c node h.0)) in
     let few : shard < 10 ^ 18 = omega (arith, h.1, v.most_shards) in
     record {
-      printable = printable-sentence (codes "remove" ∷ node_name node ∷ decimal shard ∷ []) (remove_word, (name, (plain_decimal shard few, tt)));
+      printable = printable_sentence (codes "remove" ∷ node_name node ∷ decimal shard ∷ []) (remove_word, (name, (plain_decimal shard few, tt)));
       counted = refl;
-      spelled = (decimal shard, words_of-sentence (codes "remove" ∷ node_name node ∷ decimal shard ∷ []) (remove_word, (name, (plain_decimal shard few, tt))), spelled_decimal shard few);
+      spelled = (decimal shard, words_of_sentence (codes "remove" ∷ node_name node ∷ decimal shard ∷ []) (remove_word, (name, (plain_decimal shard few, tt))), spelled_decimal shard few);
     }
 input_line c v (inputs.Drain count) h s =
     let few : count < 10 ^ 18 = omega (arith, s) in
     record {
-      printable = printable-sentence (codes "drain" ∷ decimal count ∷ []) (drain_word, (plain_decimal count few, tt));
+      printable = printable_sentence (codes "drain" ∷ decimal count ∷ []) (drain_word, (plain_decimal count few, tt));
       counted = refl;
       spelled = (number_line (codes "drain") count drain_word few, s);
     }

@@ -48,5 +48,5 @@ counted_printable number [] p = tt
 counted_printable number (line ∷ rest) p =
     counted_on (record { number = number; bytes = line }) (counted_from (number + 1) rest) (counts line) p.0 (counted_printable (number + 1) rest p.1)
 
-pub lines-printable : (number : ℕ) (text : List ℕ) → list_all is_plain text ≡ true → ArePrintable (counted_from number (lines text))
-lines-printable number text e = counted_printable number (lines text) (parts_printable (slice_split is_newline text) (split_printable text e))
+pub lines_printable : (number : ℕ) (text : List ℕ) → list_all is_plain text ≡ true → ArePrintable (counted_from number (lines text))
+lines_printable number text e = counted_printable number (lines text) (parts_printable (slice_split is_newline text) (split_printable text e))

@@ -11,8 +11,8 @@ use Rattle.script_text.specs.Words.{is_printable, words_of}
 use Rattle.script_text.specs.Spelled.{plan_word}
 use Rattle.script_text.specs.SpelledPlans.{SpellsNumbers, SpellsPlanLine}
 use Rattle.script_text.specs.Plans.{SpellsPlanLines, SpellsPlan}
-use Rattle.script_text.proofs.PlainWords.{IsPlainWord, sentence, words_of-sentence, printable-sentence, counts-sentence, plain_decimal, plain_decimals, spelled_decimals}
-use Rattle.script_text.proofs.PlainTexts.{text_of, plain_numbered, counted_lines-text_of, all_append, IsLineOf, each_line}
+use Rattle.script_text.proofs.PlainWords.{IsPlainWord, sentence, words_of_sentence, printable_sentence, counts_sentence, plain_decimal, plain_decimals, spelled_decimals}
+use Rattle.script_text.proofs.PlainTexts.{text_of, plain_numbered, counted_lines_text_of, all_append, IsLineOf, each_line}
 use Rattle.script_text.proofs.PlainInputs.{submit_text, input_text, submit_printable, submit_spelled, number_line, input_line, drain_word}
 use Rattle.script_text.proofs.PlainClusters.{head_rows, plain_head}
 
@@ -41,9 +41,9 @@ numbers_line : (due numbers : List ℕ) → IsPlainWord due → counts due ≡ t
 numbers_line due numbers w c h =
     let plain : AllByRecursion IsPlainWord (due ∷ map decimal numbers) = (w, plain_decimals numbers h) in
     record {
-      printable = printable-sentence (due ∷ map decimal numbers) plain;
-      counted = counts-sentence due (map decimal numbers) c;
-      spelled = (map decimal numbers, words_of-sentence (due ∷ map decimal numbers) plain, spelled_decimals numbers h);
+      printable = printable_sentence (due ∷ map decimal numbers) plain;
+      counted = counts_sentence due (map decimal numbers) c;
+      spelled = (map decimal numbers, words_of_sentence (due ∷ map decimal numbers) plain, spelled_decimals numbers h);
     }
 
 below_small : (limit : ℕ) (numbers : List ℕ) → limit ≤ 8 → AllByRecursion (λ n. n < limit) numbers → AllByRecursion (λ n. n < 10 ^ 18) numbers
@@ -94,7 +94,7 @@ plan_line p v (plan_lines.Submit by body) h =
 plan_line p v (plan_lines.Episode turns) h =
     let small : turns < 10 ^ 18 = omega (arith, h.1) in
     record {
-      printable = printable-sentence (codes "episode" ∷ decimal turns ∷ []) (episode_word, (plain_decimal turns small, tt));
+      printable = printable_sentence (codes "episode" ∷ decimal turns ∷ []) (episode_word, (plain_decimal turns small, tt));
       counted = refl;
       spelled = number_line (codes "episode") turns episode_word small;
     }
@@ -130,7 +130,7 @@ plain_plan p v seed =
     let printable = all_append (λ line. is_printable line ≡ true) front (rest_rows p ++ lines) head.printable (l1.printable, (l2.printable, (l3.printable, (l4.printable, tail.printable)))) in
     let counted = all_append (λ line. counts line ≡ true) front (rest_rows p ++ lines) head.counted (l1.counted, (l2.counted, (l3.counted, (l4.counted, tail.counted)))) in
     let P : List Line → Type 0 = λ ls. SpellsPlanLines ls p in
-    subst P (sym (counted_lines-text_of (plan_rows p) printable counted)) (record {
+    subst P (sym (counted_lines_text_of (plan_rows p) printable counted)) (record {
       printable = plain_numbered 1 (plan_rows p) printable;
       head = head.spelled;
       rest = (l1.spelled, l2.spelled, l3.spelled, l4.spelled, seed);

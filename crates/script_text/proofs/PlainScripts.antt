@@ -9,7 +9,7 @@ use Rattle.script_text.specs.Words.{is_printable}
 use Rattle.script_text.specs.Spelled.{script_word, SpellsInput}
 use Rattle.script_text.specs.Scripts.{SpellsLines, SpellsScript, IsSpellable}
 use Rattle.script_text.proofs.PlainWords.{IsPlainWord}
-use Rattle.script_text.proofs.PlainTexts.{text_of, plain_numbered, numbers_numbered, counted_lines-text_of, all_append, each_line}
+use Rattle.script_text.proofs.PlainTexts.{text_of, plain_numbered, numbers_numbered, counted_lines_text_of, all_append, each_line}
 use Rattle.script_text.proofs.PlainInputs.{input_text, input_lines}
 use Rattle.script_text.proofs.PlainClusters.{head_rows, plain_head}
 
@@ -28,7 +28,7 @@ plain_script c xs v h s =
     let counted = all_append (λ line. counts line ≡ true) front inputs head.counted tail.counted in
     let P : List Line → Type 0 = λ ls. SpellsLines ls c xs (range_with_len 7 (length xs)) in (
       text_of rows,
-      subst P (sym (counted_lines-text_of rows printable counted)) (record {
+      subst P (sym (counted_lines_text_of rows printable counted)) (record {
         printable = plain_numbered 1 rows printable;
         head = head.spelled;
         config = v;

@@ -42,21 +42,21 @@ ArePrintable = AllByRecursion (λ line. is_printable line ≡ true)
 abbrev pub AllCount : List (List ℕ) → Type 0
 AllCount = AllByRecursion (λ line. counts line ≡ true)
 
-lines-text_of : (rows : List (List ℕ)) → ArePrintable rows → lines (text_of rows) ≡ rows
-lines-text_of [] p = refl
-lines-text_of (line ∷ rest) p =
+lines_text_of : (rows : List (List ℕ)) → ArePrintable rows → lines (text_of rows) ≡ rows
+lines_text_of [] p = refl
+lines_text_of (line ∷ rest) p =
     lines_on line (text_of rest)
     ∙ (ap (λ (parts : List (List ℕ)). map strip_carriage_return parts ++ lines (text_of rest)) (one_part line p.0)
-    ∙ (ap (λ (x : List ℕ). x ∷ lines (text_of rest)) (kept line p.0) ∙ ap (λ (rows : List (List ℕ)). line ∷ rows) (lines-text_of rest p.1)))
+    ∙ (ap (λ (x : List ℕ). x ∷ lines (text_of rest)) (kept line p.0) ∙ ap (λ (rows : List (List ℕ)). line ∷ rows) (lines_text_of rest p.1)))
 
 -- lines that all count, numbered on from a number
 abbrev pub numbered : ℕ → List (List ℕ) → List Line
 numbered number [] = []
 numbered number (line ∷ rest) = record { number = number; bytes = line } ∷ numbered (number + 1) rest
 
-counted-all : (number : ℕ) (rows : List (List ℕ)) → AllCount rows → counted_from number rows ≡ numbered number rows
-counted-all number [] c = refl
-counted-all number (line ∷ rest) c = rw c.0 (ap (λ (t : List Line). record { number = number; bytes = line } ∷ t) (counted-all (number + 1) rest c.1))
+counted_all : (number : ℕ) (rows : List (List ℕ)) → AllCount rows → counted_from number rows ≡ numbered number rows
+counted_all number [] c = refl
+counted_all number (line ∷ rest) c = rw c.0 (ap (λ (t : List Line). record { number = number; bytes = line } ∷ t) (counted_all (number + 1) rest c.1))
 
 pub plain_numbered : (number : ℕ) (rows : List (List ℕ)) → ArePrintable rows → AllByRecursion IsPlain (numbered number rows)
 plain_numbered number [] p = tt
@@ -66,9 +66,9 @@ pub numbers_numbered : (number : ℕ) (rows : List (List ℕ)) → numbers_of (n
 numbers_numbered number [] = refl
 numbers_numbered number (line ∷ rest) = ap (λ (t : List ℕ). number ∷ t) (numbers_numbered (number + 1) rest)
 
-pub counted_lines-text_of : (rows : List (List ℕ)) → ArePrintable rows → AllCount rows → counted_lines (text_of rows) ≡ numbered 1 rows
+pub counted_lines_text_of : (rows : List (List ℕ)) → ArePrintable rows → AllCount rows → counted_lines (text_of rows) ≡ numbered 1 rows
 unfolding left_of
-counted_lines-text_of rows p c = ap (counted_from 1) (lines-text_of rows p) ∙ counted-all 1 rows c
+counted_lines_text_of rows p c = ap (counted_from 1) (lines_text_of rows p) ∙ counted_all 1 rows c
 
 -- ---- a line for each of a list
 

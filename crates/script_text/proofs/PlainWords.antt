@@ -17,7 +17,7 @@ use Rattle.script_text.specs.Words.{is_printable, words_of, is_decimal, value_of
 use Rattle.script_text.specs.Spelled.{SpellsRow}
 use Rattle.script_text.proofs.RowLemmas.{and_left, and_right}
 use Rattle.script_text.proofs.WordLemmas.{is_blank}
-use Rattle.script_text.proofs.SubmitLemmas.{AreLetters, IsEnded, words-put, digits_letters}
+use Rattle.script_text.proofs.SubmitLemmas.{AreLetters, IsEnded, words_put, digits_letters}
 
 pub record IsPlainWord (word : List ℕ) : Type 0 where
   pub some : 0 < length word
@@ -32,7 +32,7 @@ sentence (word ∷ next ∷ words) = word ++ 32 ∷ sentence (next ∷ words)
 
 put_word : (word rest : List ℕ) → IsPlainWord word → IsEnded rest → words_of (word ++ rest) ≡ word ∷ words_of rest
 put_word [] rest w h = absurd (omega (arith, w.some))
-put_word (c ∷ cs) rest w h = (words-put [] c cs rest tt w.letters h).0
+put_word (c ∷ cs) rest w h = (words_put [] c cs rest tt w.letters h).0
 
 blank_first : (x : List ℕ) → words_of (32 ∷ x) ≡ words_of x
 unfolding words_of
@@ -42,30 +42,30 @@ no_words : words_of [] ≡ []
 unfolding words_of
 no_words = refl
 
-pub words_of-sentence : (words : List (List ℕ)) → AllByRecursion IsPlainWord words → words_of (sentence words) ≡ words
-words_of-sentence [] p = no_words
-words_of-sentence (w ∷ []) p = ap words_of (sym (append-nil w)) ∙ (put_word w [] p.0 tt ∙ ap (λ (ws : List (List ℕ)). w ∷ ws) no_words)
-words_of-sentence (w ∷ v ∷ ws) p =
-    put_word w (32 ∷ sentence (v ∷ ws)) p.0 refl ∙ ap (λ (t : List (List ℕ)). w ∷ t) (blank_first (sentence (v ∷ ws)) ∙ words_of-sentence (v ∷ ws) p.1)
+pub words_of_sentence : (words : List (List ℕ)) → AllByRecursion IsPlainWord words → words_of (sentence words) ≡ words
+words_of_sentence [] p = no_words
+words_of_sentence (w ∷ []) p = ap words_of (sym (append-nil w)) ∙ (put_word w [] p.0 tt ∙ ap (λ (ws : List (List ℕ)). w ∷ ws) no_words)
+words_of_sentence (w ∷ v ∷ ws) p =
+    put_word w (32 ∷ sentence (v ∷ ws)) p.0 refl ∙ ap (λ (t : List (List ℕ)). w ∷ t) (blank_first (sentence (v ∷ ws)) ∙ words_of_sentence (v ∷ ws) p.1)
 
 both : (a b : Bool) → a ≡ true → b ≡ true → (a && b) ≡ true
 both a b p q = rw (p, q) refl
 
-pub printable-append : (x y : List ℕ) → is_printable x ≡ true → is_printable y ≡ true → is_printable (x ++ y) ≡ true
-printable-append x y p q = list_all-append (λ b. nat_le 0x20 b && nat_le b 0x7e) x y ∙ both (is_printable x) (is_printable y) p q
+pub printable_append : (x y : List ℕ) → is_printable x ≡ true → is_printable y ≡ true → is_printable (x ++ y) ≡ true
+printable_append x y p q = list_all-append (λ b. nat_le 0x20 b && nat_le b 0x7e) x y ∙ both (is_printable x) (is_printable y) p q
 
-pub printable-sentence : (words : List (List ℕ)) → AllByRecursion IsPlainWord words → is_printable (sentence words) ≡ true
-printable-sentence [] p = refl
-printable-sentence (w ∷ []) p = p.0.printable
-printable-sentence (w ∷ v ∷ ws) p = printable-append w (32 ∷ sentence (v ∷ ws)) p.0.printable (printable-sentence (v ∷ ws) p.1)
+pub printable_sentence : (words : List (List ℕ)) → AllByRecursion IsPlainWord words → is_printable (sentence words) ≡ true
+printable_sentence [] p = refl
+printable_sentence (w ∷ []) p = p.0.printable
+printable_sentence (w ∷ v ∷ ws) p = printable_append w (32 ∷ sentence (v ∷ ws)) p.0.printable (printable_sentence (v ∷ ws) p.1)
 
-pub counts-first : (w rest : List ℕ) → counts w ≡ true → counts (w ++ rest) ≡ true
-counts-first [] rest e = absurd cc
-counts-first (c ∷ cs) rest e = e
+pub counts_first : (w rest : List ℕ) → counts w ≡ true → counts (w ++ rest) ≡ true
+counts_first [] rest e = absurd cc
+counts_first (c ∷ cs) rest e = e
 
-pub counts-sentence : (w : List ℕ) (words : List (List ℕ)) → counts w ≡ true → counts (sentence (w ∷ words)) ≡ true
-counts-sentence w [] e = e
-counts-sentence w (v ∷ words) e = counts-first w (32 ∷ sentence (v ∷ words)) e
+pub counts_sentence : (w : List ℕ) (words : List (List ℕ)) → counts w ≡ true → counts (sentence (w ∷ words)) ≡ true
+counts_sentence w [] e = e
+counts_sentence w (v ∷ words) e = counts_first w (32 ∷ sentence (v ∷ words)) e
 
 -- ---- decimals
 
@@ -121,9 +121,9 @@ plain_name (nodes.Consumer k) h = record { some = omega arith; letters = (refl, 
 abbrev pub row_word : Row → List ℕ
 row_word r = decimal r.shard ++ 58 ∷ decimal r.quota
 
-letters-append : (x y : List ℕ) → AreLetters x → AreLetters y → AreLetters (x ++ y)
-letters-append [] y p q = q
-letters-append (c ∷ cs) y p q = (p.0, letters-append cs y p.1 q)
+letters_append : (x y : List ℕ) → AreLetters x → AreLetters y → AreLetters (x ++ y)
+letters_append [] y p q = q
+letters_append (c ∷ cs) y p q = (p.0, letters_append cs y p.1 q)
 
 length_some : (x y : List ℕ) → 0 < length x → 0 < length (x ++ y)
 length_some [] y h = absurd (omega arith)
@@ -135,8 +135,8 @@ plain_row r s q =
     let b = plain_decimal r.quota q in
     record {
       some = length_some (decimal r.shard) (58 ∷ decimal r.quota) a.some;
-      letters = letters-append (decimal r.shard) (58 ∷ decimal r.quota) a.letters (refl, b.letters);
-      printable = printable-append (decimal r.shard) (58 ∷ decimal r.quota) a.printable b.printable;
+      letters = letters_append (decimal r.shard) (58 ∷ decimal r.quota) a.letters (refl, b.letters);
+      printable = printable_append (decimal r.shard) (58 ∷ decimal r.quota) a.printable b.printable;
     }
 
 pub spelled_row : (r : Row) → r.shard < 10 ^ 18 → r.quota < 10 ^ 18 → SpellsRow (row_word r) r

@@ -18,17 +18,17 @@ joined front x (Ok rest) = ap Ok (sym (append_assoc front (x ∷ []) rest))
 joined front x (Err e) = refl
 
 module _ (p : Plan) (entries : ℕ) (front : List PlanLine) (line : Line) (rest all : List Line) (all_is : all ≡ line ∷ rest) where
-  pub plan-next : (x : PlanLine) (more : ℕ) → plan_line_in p line.bytes ≡ Ok x → within_limit line.number (entries + line_entries (node_count p.cfg) x) ≡ Ok more
+  pub plan_next : (x : PlanLine) (more : ℕ) → plan_line_in p line.bytes ≡ Ok x → within_limit line.number (entries + line_entries (node_count p.cfg) x) ≡ Ok more
       → before front (plan_lines_in p entries all) ≡ before (front ++ x ∷ []) (plan_lines_in p more rest)
-  plan-next x more e w = rw (all_is, e, w) (joined front x (plan_lines_in p more rest))
+  plan_next x more e w = rw (all_is, e, w) (joined front x (plan_lines_in p more rest))
 
-  pub plan-refused : (kind : ScriptKind) → plan_line_in p line.bytes ≡ Err kind
+  pub plan_refused : (kind : ScriptKind) → plan_line_in p line.bytes ≡ Err kind
       → before front (plan_lines_in p entries all) ≡ Err (script_errors.At line.number kind)
-  plan-refused kind e = rw (all_is, e) refl
+  plan_refused kind e = rw (all_is, e) refl
 
-  pub plan-too-long : (x : PlanLine) (error : ScriptError) → plan_line_in p line.bytes ≡ Ok x
+  pub plan_too_long : (x : PlanLine) (error : ScriptError) → plan_line_in p line.bytes ≡ Ok x
       → within_limit line.number (entries + line_entries (node_count p.cfg) x) ≡ Err error → before front (plan_lines_in p entries all) ≡ Err error
-  plan-too-long x error e w = rw (all_is, e, w) refl
+  plan_too_long x error e w = rw (all_is, e, w) refl
 
-pub plan-end : (p : Plan) (entries : ℕ) (front : List PlanLine) (all : List Line) → all ≡ [] → before front (plan_lines_in p entries all) ≡ Ok front
-plan-end p entries front all all_is = rw (all_is, append-nil) refl
+pub plan_end : (p : Plan) (entries : ℕ) (front : List PlanLine) (all : List Line) → all ≡ [] → before front (plan_lines_in p entries all) ≡ Ok front
+plan_end p entries front all all_is = rw (all_is, append-nil) refl

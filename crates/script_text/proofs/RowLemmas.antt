@@ -8,7 +8,7 @@ use Rattle.std.proofs.lemmas.Bool.Decides.{nat_tests}
 use Rattle.script_text.specs.Names.kinds
 use Rattle.script_text.specs.Words.{is_decimal}
 use Rattle.script_text.specs.Judged.{asked_of, asked_in}
-use Rattle.script_text.proofs.Splits.{split_some, split-none, split-at, to_end}
+use Rattle.script_text.proofs.Splits.{split_some, split_none, split_at, to_end}
 
 abbrev pub is_colon : ℕ → Bool
 is_colon b = b == 58
@@ -56,13 +56,13 @@ parts_at shards a b false e =
     more_parts shards a b some.0 some.1 some.2 e ∙ sym (no_quota shards a b e)
 
 -- what stands before the first colon, and what stands after it
-pub asked-colon : (shards : ℕ) (word : List ℕ) (at : ℕ) → position is_colon word ≡ Some at
+pub asked_colon : (shards : ℕ) (word : List ℕ) (at : ℕ) → position is_colon word ≡ Some at
     → asked_in shards word ≡ asked_of shards (take at word ∷ take (length word - (at + 1)) (drop (at + 1) word) ∷ [])
 unfolding asked_in
-asked-colon shards word at e =
-    rw (to_end word (at + 1)) (ap (asked_of shards) (split-at is_colon word at e) ∙ parts_at shards (take at word) (drop (at + 1) word) (is_decimal (drop (at + 1) word)) refl)
+asked_colon shards word at e =
+    rw (to_end word (at + 1)) (ap (asked_of shards) (split_at is_colon word at e) ∙ parts_at shards (take at word) (drop (at + 1) word) (is_decimal (drop (at + 1) word)) refl)
 
 -- without a colon it is no row
-pub asked-none : (shards : ℕ) (word : List ℕ) → position is_colon word ≡ None → asked_in shards word ≡ Err kinds.Number
+pub asked_none : (shards : ℕ) (word : List ℕ) → position is_colon word ≡ None → asked_in shards word ≡ Err kinds.Number
 unfolding asked_in
-asked-none shards word e = ap (asked_of shards) (split-none is_colon word e)
+asked_none shards word e = ap (asked_of shards) (split_none is_colon word e)

@@ -6,9 +6,9 @@ use Rattle.std.proofs.lemmas.Grind.{common_steps}
 use Rattle.std.proofs.lemmas.Bool.Decides.{nat_tests}
 
 module _ (p : ℕ → Bool) where
-  onto_first-some : (x : ℕ) (parts : List (List ℕ)) → (y : List ℕ) × (ys : List (List ℕ)) × (onto_first x parts ≡ y ∷ ys)
-  onto_first-some x [] = (x ∷ [], [], refl)
-  onto_first-some x (y ∷ ys) = (x ∷ y, ys, refl)
+  onto_first_some : (x : ℕ) (parts : List (List ℕ)) → (y : List ℕ) × (ys : List (List ℕ)) × (onto_first x parts ≡ y ∷ ys)
+  onto_first_some x [] = (x ∷ [], [], refl)
+  onto_first_some x (y ∷ ys) = (x ∷ y, ys, refl)
 
   -- there is at least one part
   pub split_some : (xs : List ℕ) → (y : List ℕ) × (ys : List (List ℕ)) × (slice_split p xs ≡ y ∷ ys)
@@ -16,7 +16,7 @@ module _ (p : ℕ → Bool) where
   split_some (x ∷ xs) =
       elim (p x) as (λ b. (y : List ℕ) × (ys : List (List ℕ)) × (cond b ([] ∷ slice_split p xs) (onto_first x (slice_split p xs)) ≡ y ∷ ys)) [
         | true ↦ ([], slice_split p xs, refl)
-        | false ↦ onto_first-some x (slice_split p xs)
+        | false ↦ onto_first_some x (slice_split p xs)
       ]
 
   split_whole : (xs : List ℕ) → length xs ≤ position_or_len p xs → slice_split p xs ≡ xs ∷ []
@@ -28,12 +28,12 @@ module _ (p : ℕ → Bool) where
       ] h
 
   -- where none passes, there is one part
-  pub split-none : (xs : List ℕ) → position p xs ≡ None → slice_split p xs ≡ xs ∷ []
-  split-none xs e = split_whole xs (grind (arith, nat_tests))
+  pub split_none : (xs : List ℕ) → position p xs ≡ None → slice_split p xs ≡ xs ∷ []
+  split_none xs e = split_whole xs (grind (arith, nat_tests))
 
   -- the first part ends at the first one that passes
-  pub split-at : (xs : List ℕ) (at : ℕ) → position p xs ≡ Some at → slice_split p xs ≡ take at xs ∷ slice_split p (drop (at + 1) xs)
-  split-at xs at e =
+  pub split_at : (xs : List ℕ) (at : ℕ) → position p xs ≡ Some at → slice_split p xs ≡ take at xs ∷ slice_split p (drop (at + 1) xs)
+  split_at xs at e =
       let here : (position_or_len p xs ≡ at) × (position_or_len p xs < length xs) = grind (arith, nat_tests) in
       let P : ℕ → Type 0 = λ n. slice_split p xs ≡ take n xs ∷ slice_split p (drop (n + 1) xs) in
       subst P here.0 (slice_split_first p xs 0 here.1)

@@ -9,7 +9,7 @@ use Rattle.script_text.specs.Words.{words_of, after_word, is_decimal, SpellsDeci
 use Rattle.script_text.specs.Spelled.{AreSpaces, SpellsBody, SpellsSubmit}
 use Rattle.script_text.specs.Judged.{body_of}
 use Rattle.script_text.proofs.RowLemmas.{and_left, and_right}
-use Rattle.script_text.proofs.WordLemmas.{is_blank, spaces, letters, words-first, words-none}
+use Rattle.script_text.proofs.WordLemmas.{is_blank, spaces, letters, words_first, words_none}
 
 -- ---- a line put together
 
@@ -48,15 +48,15 @@ starts : (c : ℕ) (cs rest : List ℕ) → is_blank c ≡ false → spaces ((c 
 starts c cs rest e = rw e refl
 
 -- spaces, a word, and what follows it
-pub words-put : (before : List ℕ) (c : ℕ) (cs rest : List ℕ) → AreSpaces before → AreLetters (c ∷ cs) → IsEnded rest
+pub words_put : (before : List ℕ) (c : ℕ) (cs rest : List ℕ) → AreSpaces before → AreLetters (c ∷ cs) → IsEnded rest
     → (words_of (before ++ ((c ∷ cs) ++ rest)) ≡ (c ∷ cs) ∷ words_of rest) × (after_word (before ++ ((c ∷ cs) ++ rest)) ≡ rest)
-words-put before c cs rest s w h =
+words_put before c cs rest s w h =
     let line = before ++ ((c ∷ cs) ++ rest) in
     let n_is : length before ≡ spaces line = sym (spaces_then before ((c ∷ cs) ++ rest) s (starts c cs rest w.0)) in
     let left_is : (c ∷ cs) ++ rest ≡ drop (length before) line = sym (drop_length before ((c ∷ cs) ++ rest)) in
     let some : 0 < length ((c ∷ cs) ++ rest) = omega arith in
     let m_is : length (c ∷ cs) ≡ letters ((c ∷ cs) ++ rest) = sym (letters_then (c ∷ cs) rest w h) in
-    let f = words-first line ((c ∷ cs) ++ rest) (length before) (length (c ∷ cs)) n_is left_is some m_is in
+    let f = words_first line ((c ∷ cs) ++ rest) (length before) (length (c ∷ cs)) n_is left_is some m_is in
     let front : take (length (c ∷ cs)) ((c ∷ cs) ++ rest) ≡ c ∷ cs = take_length (c ∷ cs) rest in
     let back : drop (length (c ∷ cs)) ((c ∷ cs) ++ rest) ≡ rest = drop_length (c ∷ cs) rest in
     (f.0 ∙ (ap (λ (t : List ℕ). t ∷ words_of (drop (length (c ∷ cs)) ((c ∷ cs) ++ rest))) front ∙ ap (λ (t : List ℕ). (c ∷ cs) ∷ words_of t) back), sym f.1 ∙ back)
@@ -92,7 +92,7 @@ pub record HasWord (line word : List ℕ) (words : List (List ℕ)) : Type 0 whe
 word_there : (line word : List ℕ) (words : List (List ℕ)) → 0 < length (drop (spaces line) line) → words_of line ≡ word ∷ words → HasWord line word words
 word_there line word words some e =
     let left = drop (spaces line) line in
-    let f = words-first line left (spaces line) (letters left) refl refl some refl in
+    let f = words_first line left (spaces line) (letters left) refl refl some refl in
     let both : take (letters left) left ∷ words_of (drop (letters left) left) ≡ word ∷ words = sym f.0 ∙ e in
     let word_is : take (letters left) left ≡ word = cc in
     let words_are : words_of (drop (letters left) left) ≡ words = cc in
@@ -106,11 +106,11 @@ word_there line word words some e =
 
 word_or_none : (line word : List ℕ) (words : List (List ℕ)) (left : List ℕ) → left ≡ drop (spaces line) line → words_of line ≡ word ∷ words
     → HasWord line word words
-word_or_none line word words [] left_is e = let none : words_of line ≡ [] = words-none line [] (spaces line) refl left_is refl in absurd cc
+word_or_none line word words [] left_is e = let none : words_of line ≡ [] = words_none line [] (spaces line) refl left_is refl in absurd cc
 word_or_none line word words (c ∷ cs) left_is e = word_there line word words (omega (arith, ap length left_is)) e
 
-pub word-taken : (line word : List ℕ) (words : List (List ℕ)) → words_of line ≡ word ∷ words → HasWord line word words
-word-taken line word words e = word_or_none line word words (drop (spaces line) line) refl e
+pub word_taken : (line word : List ℕ) (words : List (List ℕ)) → words_of line ≡ word ∷ words → HasWord line word words
+word_taken line word words e = word_or_none line word words (drop (spaces line) line) refl e
 
 -- ---- submissions
 
@@ -144,7 +144,7 @@ spaces_end (b ∷ bs) x s some = s.0
 second_word : (between word rest : List ℕ) → AreSpaces between → is_decimal word ≡ true → IsEnded rest
     → (words_of (between ++ (word ++ rest)) ≡ word ∷ words_of rest) × (after_word (between ++ (word ++ rest)) ≡ rest)
 second_word between [] rest s d h = let none = decimal_some in absurd cc
-second_word between (c ∷ cs) rest s d h = words-put between c cs rest s (decimal_letters (c ∷ cs) d) h
+second_word between (c ∷ cs) rest s d h = words_put between c cs rest s (decimal_letters (c ∷ cs) d) h
 
 -- the words of a submission, and its body
 pub record IsSubmission (line : List ℕ) (client : ℕ) (body : List ℕ) : Type 0 where
@@ -154,10 +154,10 @@ pub record IsSubmission (line : List ℕ) (client : ℕ) (body : List ℕ) : Typ
   pub client_is : SpellsDecimal word client
   pub body_is : body_of line ≡ body
 
-pub submit-back : (line : List ℕ) (client : ℕ) (body : List ℕ) → SpellsSubmit line client body → IsSubmission line client body
-submit-back line client body s =
+pub submission_back : (line : List ℕ) (client : ℕ) (body : List ℕ) → SpellsSubmit line client body → IsSubmission line client body
+submission_back line client body s =
     let tail = s.between ++ (s.word ++ s.rest) in
-    let first = words-put s.before 115 (117 ∷ 98 ∷ 109 ∷ 105 ∷ 116 ∷ []) tail s.spaces_before (refl, (refl, (refl, (refl, (refl, (refl, tt)))))) (spaces_end s.between (s.word ++ s.rest) s.spaces_between s.some_space) in
+    let first = words_put s.before 115 (117 ∷ 98 ∷ 109 ∷ 105 ∷ 116 ∷ []) tail s.spaces_before (refl, (refl, (refl, (refl, (refl, (refl, tt)))))) (spaces_end s.between (s.word ++ s.rest) s.spaces_between s.some_space) in
     let second = second_word s.between s.word s.rest s.spaces_between s.client_is.0 (body_ended s.rest body s.body_is) in
     let after : after_word line ≡ tail = ap after_word s.line_is ∙ first.1 in
     record {
@@ -173,17 +173,17 @@ body_of_rest [] h = inr (refl, refl)
 body_of_rest (b ∷ bs) h = inl (ap (λ (x : ℕ). x ∷ bs) h)
 
 some_blank : (rest word : List ℕ) (words : List (List ℕ)) → IsEnded rest → words_of rest ≡ word ∷ words → 0 < length (take (spaces rest) rest)
-some_blank [] word words h e = let none : words_of [] ≡ [] = words-none [] [] 0 refl refl refl in absurd cc
+some_blank [] word words h e = let none : words_of [] ≡ [] = words_none [] [] 0 refl refl refl in absurd cc
 some_blank (b ∷ bs) word words h e =
     let one : spaces (b ∷ bs) ≡ 1 + spaces bs = rw (blank_is b h) refl in
     rw (one, one-add) (omega arith)
 
-pub submit-ok : (line word : List ℕ) (words : List (List ℕ)) (client : ℕ) → words_of line ≡ codes "submit" ∷ word ∷ words → SpellsDecimal word client
+pub submit_ok : (line word : List ℕ) (words : List (List ℕ)) (client : ℕ) → words_of line ≡ codes "submit" ∷ word ∷ words → SpellsDecimal word client
     → SpellsSubmit line client (body_of line)
-submit-ok line word words client e s =
-    let first = word-taken line (codes "submit") (word ∷ words) e in
+submit_ok line word words client e s =
+    let first = word_taken line (codes "submit") (word ∷ words) e in
     let rest = after_word line in
-    let second = word-taken rest word words first.more in
+    let second = word_taken rest word words first.more in
     record {
       before = take (spaces line) line;
       between = take (spaces rest) rest;

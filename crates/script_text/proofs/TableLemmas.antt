@@ -6,7 +6,7 @@ use Rattle.std.proofs.lemmas.List.{length-map}
 use Rattle.std.proofs.lemmas.Bool.Decides.{nat_tests}
 use Rattle.quota_table.specs.Rows.{IsTable, is_row, is_distinct, has_shard}
 use Rattle.quota_table.specs.Tables.{asked_row, row_fault, rows_fault, table_fault}
-use Rattle.quota_table.proofs.TableLemmas.{IsTable-from_fault}
+use Rattle.quota_table.proofs.TableLemmas.{IsTable_from_fault}
 use Rattle.script_text.specs.Names.{Asked, Row}
 
 -- the shard of a row of a table is one of the six
@@ -31,10 +31,10 @@ by_counts asked false true e f fault = let bad = rw (e, f) at fault in absurd (c
 by_counts asked false false e f fault =
     let some : 1 ≤ length asked = grind (arith, nat_tests) in
     let few : length asked ≤ 6 = grind (arith, nat_tests) in
-    IsTable-from_fault asked some few (rw (e, f) at fault)
+    IsTable_from_fault asked some few (rw (e, f) at fault)
 
-pub IsTable-from_asked : (asked : List Asked) → table_fault asked ≡ None → IsTable (map asked_row asked)
-IsTable-from_asked asked fault = by_counts asked (length asked == 0) (nat_lt 6 (length asked)) refl refl fault
+pub IsTable_from_asked : (asked : List Asked) → table_fault asked ≡ None → IsTable (map asked_row asked)
+IsTable_from_asked asked fault = by_counts asked (length asked == 0) (nat_lt 6 (length asked)) refl refl fault
 
 -- ---- no fault from a table
 
@@ -72,8 +72,8 @@ nothing_before : (rest : List Asked) → Apart [] rest
 nothing_before [] = tt
 nothing_before (a ∷ rest) = (refl, nothing_before rest)
 
-pub table_fault-none : (asked : List Asked) → IsTable (map asked_row asked) → table_fault asked ≡ None
-table_fault-none asked t =
+pub table_fault_none : (asked : List Asked) → IsTable (map asked_row asked) → table_fault asked ≡ None
+table_fault_none asked t =
     let size = length-map asked asked_row in
     let some : (length asked == 0) ≡ false = grind (arith, nat_tests, t.some) in
     let few : nat_lt 6 (length asked) ≡ false = grind (arith, nat_tests, t.few) in

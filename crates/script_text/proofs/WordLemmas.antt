@@ -29,9 +29,9 @@ trim c cs true e h = rw (e, one-add) h
 trim c cs false e h = rw e (rw e refl)
 
 -- spaces in front make no word
-words-trim : (line : List ℕ) → filter has_bytes (parts line) ≡ filter has_bytes (parts (drop (spaces line) line))
-words-trim [] = refl
-words-trim (c ∷ cs) = trim c cs (is_blank c) refl (words-trim cs)
+words_trim : (line : List ℕ) → filter has_bytes (parts line) ≡ filter has_bytes (parts (drop (spaces line) line))
+words_trim [] = refl
+words_trim (c ∷ cs) = trim c cs (is_blank c) refl (words_trim cs)
 
 abbrev IsBegun : List ℕ → Type 0
 IsBegun [] = Unit {0}
@@ -73,19 +73,19 @@ first_word line h =
     ap (filter has_bytes) c.1 ∙ some_part (take (letters line) line) c.0 some ∙ ap (λ more. take (letters line) line ∷ more) (sym (ap (filter has_bytes) c.2))
 
 -- where nothing follows the spaces there is no word
-pub words-none : (line left : List ℕ) (n : ℕ) → n ≡ spaces line → left ≡ drop n line → length left ≡ 0 → words_of line ≡ []
+pub words_none : (line left : List ℕ) (n : ℕ) → n ≡ spaces line → left ≡ drop n line → length left ≡ 0 → words_of line ≡ []
 unfolding words_of
-words-none line left n n_is is none =
+words_none line left n n_is is none =
     let left_is : left ≡ drop (spaces line) line = is ∙ ap (λ k. drop k line) n_is in
-    words-trim line ∙ ap (λ rest. filter has_bytes (parts rest)) (sym left_is ∙ empty left none)
+    words_trim line ∙ ap (λ rest. filter has_bytes (parts rest)) (sym left_is ∙ empty left none)
 
 -- and else a word, with what follows it
-pub words-first : (line left : List ℕ) (n m : ℕ) → n ≡ spaces line → left ≡ drop n line → 0 < length left → m ≡ letters left
+pub words_first : (line left : List ℕ) (n m : ℕ) → n ≡ spaces line → left ≡ drop n line → 0 < length left → m ≡ letters left
     → (words_of line ≡ take m left ∷ words_of (drop m left)) × (drop m left ≡ after_word line) × (length (drop m left) < length line)
 unfolding words_of after_word
-words-first line left n m n_is is some m_is =
+words_first line left n m n_is is some m_is =
     let left_is : left ≡ drop (spaces line) line = is ∙ ap (λ k. drop k line) n_is in
     let begun_is : IsBegun left = subst IsBegun (sym left_is) (begun line) in
     let here : 0 < letters left = letters_some left begun_is some in
-    let trimmed : filter has_bytes (parts line) ≡ filter has_bytes (parts left) = words-trim line ∙ ap (λ rest. filter has_bytes (parts rest)) (sym left_is) in
+    let trimmed : filter has_bytes (parts line) ≡ filter has_bytes (parts left) = words_trim line ∙ ap (λ rest. filter has_bytes (parts rest)) (sym left_is) in
     (rw m_is (trimmed ∙ first_word left here), rw (m_is, left_is) refl, omega (arith, length-drop m left, ap length is, length-drop n line))

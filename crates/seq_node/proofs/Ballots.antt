@@ -25,8 +25,8 @@ accepts_it ballot value own none_above = ap (λ (promised : Option ℕ). after_a
 
 -- ---- a new ballot
 
-next-above : (replica n floor : ℕ) → 1 ≤ n → floor < next_ballot replica n floor
-next-above replica n floor some =
+next_above : (replica n floor : ℕ) → 1 ≤ n → floor < next_ballot replica n floor
+next_above replica n floor some =
     let split : floor / n * n + floor % n ≡ floor = div-add-mod' floor n in
     let rest : floor % n < n = mod-lt floor (omega (arith, some)) in
     on_test (λ (ballot : ℕ). floor < ballot) (nat_lt floor (floor / n * n + replica)) (floor / n * n + replica) (floor / n * n + replica + n)
@@ -44,7 +44,7 @@ pub open_ballot : (replica n highest : ℕ) (own : AcceptorState Entry) → 1 �
 open_ballot replica n highest own some =
     on_test (λ (ballot : ℕ). greater_promise own.promised ballot ≡ None) (takes_zero replica own) 0 (next_ballot replica n (max highest (unwrap_or own.promised 0)))
     (λ zero_taken. nothing_promised own.promised 0 (and_parts (is_none own.promised) (is_none own.accepted) (and_parts (replica == 0) _ zero_taken).1).0)
-    (λ _. none_greater own.promised _ (omega (arith, next-above replica n (max highest (unwrap_or own.promised 0)) some)))
+    (λ _. none_greater own.promised _ (omega (arith, next_above replica n (max highest (unwrap_or own.promised 0)) some)))
 
 -- ---- reports
 

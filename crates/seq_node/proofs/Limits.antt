@@ -13,7 +13,7 @@ use Rattle.cut_core.specs.declared.effects.Reason.{Reason}
 use Rattle.cut_core.specs.Agreements.{Agreement, is_last_round}
 use Rattle.cut_core.specs.Reasons.{fault_of}
 use Rattle.cut_core.specs.Fold.{with_round, open_granted, after_entry, unless_void, applied, applied_all}
-use Rattle.cut_core.proofs.AgreeingLemmas.{slots-applied_all}
+use Rattle.cut_core.proofs.AgreeingLemmas.{slots_applied_all}
 use Rattle.node_rules.specs.Names.{Entry}
 use Rattle.node_rules.specs.Names.entries
 use Rattle.node_rules.specs.Nodes.{Base, agreed_by}
@@ -24,7 +24,7 @@ use Rattle.node_rules.proofs.Lists.{on_test}
 -- ---- what the known entries agree on
 
 pub slots_known : (b : Base) → (agreed_by b).slots ≡ length b.known
-slots_known b = let slots : (agreed_by b).slots ≡ 0 + length b.known = slots-applied_all _ b.known in omega (arith, slots)
+slots_known b = let slots : (agreed_by b).slots ≡ 0 + length b.known = slots_applied_all _ b.known in omega (arith, slots)
 
 -- ---- numbers of windows
 
@@ -36,31 +36,31 @@ MayBeNumbered limit (Some w) = w.number ≤ limit
 abbrev AreNumbered : ℕ → Agreement → Type 0
 AreNumbered limit a = (a.current.number ≤ limit) × MayBeNumbered limit a.granted
 
-numbered-open : (limit : ℕ) (a : Agreement) (granted : Option Window) → AreNumbered limit a → MayBeNumbered limit granted
+numbered_open : (limit : ℕ) (a : Agreement) (granted : Option Window) → AreNumbered limit a → MayBeNumbered limit granted
     → AreNumbered limit (open_granted a granted)
-numbered-open limit a None are next = are
-numbered-open limit a (Some w) are next = (next, tt)
+numbered_open limit a None are next = are
+numbered_open limit a (Some w) are next = (next, tt)
 
-numbered-after : (limit : ℕ) (a : Agreement) (entry : Entry) → AreNumbered limit a → a.slots + 1 ≤ limit → AreNumbered limit (after_entry a entry)
-numbered-after limit a entries.Nothing are room = are
-numbered-after limit a (entries.Cut window round) are room =
-    on_test (AreNumbered limit) (is_last_round a) (open_granted (with_round a) a.granted) (with_round a) (λ _. numbered-open limit (with_round a) a.granted are are.1) (λ _. are)
-numbered-after limit a (entries.Table after rounds rows) are room = (are.0, room)
-numbered-after limit a (entries.Remove window shard) are room = (room, tt)
+numbered_after : (limit : ℕ) (a : Agreement) (entry : Entry) → AreNumbered limit a → a.slots + 1 ≤ limit → AreNumbered limit (after_entry a entry)
+numbered_after limit a entries.Nothing are room = are
+numbered_after limit a (entries.Cut window round) are room =
+    on_test (AreNumbered limit) (is_last_round a) (open_granted (with_round a) a.granted) (with_round a) (λ _. numbered_open limit (with_round a) a.granted are are.1) (λ _. are)
+numbered_after limit a (entries.Table after rounds rows) are room = (are.0, room)
+numbered_after limit a (entries.Remove window shard) are room = (room, tt)
 
-numbered-unless : (limit : ℕ) (fault : Option Reason) (a after : Agreement) → AreNumbered limit a → AreNumbered limit after
+numbered_unless : (limit : ℕ) (fault : Option Reason) (a after : Agreement) → AreNumbered limit a → AreNumbered limit after
     → AreNumbered limit (unless_void fault a after)
-numbered-unless limit None a after before next = next
-numbered-unless limit (Some reason) a after before next = before
+numbered_unless limit None a after before next = next
+numbered_unless limit (Some reason) a after before next = before
 
-numbered-all : (limit : ℕ) (a : Agreement) (known : List Entry) → AreNumbered limit a → a.slots + length known ≤ limit → AreNumbered limit (applied_all a known)
-numbered-all limit a [] are room = are
-numbered-all limit a (entry ∷ known) are room =
-    numbered-all limit (applied a entry) known
-    (numbered-unless limit (fault_of a entry) a (after_entry a entry) are (numbered-after limit a entry are (omega arith))) (omega arith)
+numbered_all : (limit : ℕ) (a : Agreement) (known : List Entry) → AreNumbered limit a → a.slots + length known ≤ limit → AreNumbered limit (applied_all a known)
+numbered_all limit a [] are room = are
+numbered_all limit a (entry ∷ known) are room =
+    numbered_all limit (applied a entry) known
+    (numbered_unless limit (fault_of a entry) a (after_entry a entry) are (numbered_after limit a entry are (omega arith))) (omega arith)
 
 pub number_limit : (b : Base) → IsBase b → (agreed_by b).current.number ≤ 1000000
-number_limit b is = (numbered-all 1000000 _ b.known (omega arith, tt) (omega (arith, is.few))).0
+number_limit b is = (numbered_all 1000000 _ b.known (omega arith, tt) (omega (arith, is.few))).0
 
 -- ---- lagging rows
 

@@ -3,7 +3,7 @@ use Rattle.std.proofs.Common.{List, ◌++◌, ◌∷◌, [], ◌∙◌, arith}
 use Rattle.std.proofs.lemmas.Bool.{ltb-true}
 use Rattle.std.proofs.lemmas.List.{length-append}
 use Rattle.std.proofs.lemmas.Option.{slice_get_within}
-use Rattle.fix_ante.proofs.Entries.{slice_get-append_left}
+use Rattle.fix_ante.proofs.Entries.{slice_get_append_left}
 use Rattle.node_rules.specs.Names.{NodeId, Entry, What, Event}
 use Rattle.node_rules.specs.Names.whats
 use Rattle.node_rules.specs.Nodes.{Node}
@@ -20,7 +20,7 @@ said n event s to _ _ = tt
 
 grows : (known more : List Entry) (what : What) → IsTrueOf known what → IsTrueOf (known ++ more) what
 grows known more (whats.Decided slot count entry) before =
-    (before.0, omega (arith, before.1, length-append known more), slice_get-append_left known more slot (slice_get_within known slot entry before.2) ∙ before.2)
+    (before.0, omega (arith, before.1, length-append known more), slice_get_append_left known more slot (slice_get_within known slot entry before.2) ∙ before.2)
 grows known more _ before = tt
 
 pub messages_are_true : MessagesAreTrue

@@ -33,9 +33,9 @@ own_wishing wishes o s are is = record { acceptors = is.acceptors; primaries = i
 
 -- ---- acceptors
 
-length-reaching : (acceptors : List (AcceptorState Entry)) (slot : ℕ) (acceptor : AcceptorState Entry)
+length_reaching : (acceptors : List (AcceptorState Entry)) (slot : ℕ) (acceptor : AcceptorState Entry)
     → length (set (reaching (slot + 1) acceptors) slot acceptor) ≡ length acceptors + (slot + 1 - length acceptors)
-length-reaching acceptors slot acceptor =
+length_reaching acceptors slot acceptor =
     length-set (reaching (slot + 1) acceptors) slot acceptor ∙ length-append acceptors (replicate (slot + 1 - length acceptors) fresh_acceptor)
     ∙ ap (λ (count : ℕ). length acceptors + count) (length-replicate (slot + 1 - length acceptors) fresh_acceptor)
 
@@ -57,7 +57,7 @@ acceptors_with : (acceptors : List (AcceptorState Entry)) (slot : ℕ) (acceptor
     → AreAcceptors acceptors
     → AreAcceptors (set (reaching (slot + 1) acceptors) slot acceptor)
 acceptors_with acceptors slot acceptor low valid are =
-    record { each = all_reaching IsAcceptor acceptors slot acceptor tt are.each valid; few = omega (arith, length-reaching acceptors slot acceptor, low, are.few) }
+    record { each = all_reaching IsAcceptor acceptors slot acceptor tt are.each valid; few = omega (arith, length_reaching acceptors slot acceptor, low, are.few) }
 
 pub acceptor_valid : (s : SequencerState) (slot : ℕ) → IsOwn s → IsAcceptor (acceptor_at s slot)
 acceptor_valid s slot is = all_or IsAcceptor s.acceptors slot fresh_acceptor is.acceptors.each tt
@@ -97,7 +97,7 @@ pub acceptor_put : (s : Node SequencerState) (slot : ℕ) (acceptor : AcceptorSt
     → ((more : ℕ) → length s.own.acceptors ≤ more → slot < more → MayBeAttempt (number_of s.base.me) s.base.cfg.seqs (length s.base.known) more o)
     → IsOrderly (with_own (record (s.own) { acceptors = set (reaching (slot + 1) s.own.acceptors) slot acceptor; attempt = o; idle = idle }) s)
 acceptor_put s slot acceptor o idle is low valid few attempt =
-    let longer = length-reaching s.own.acceptors slot acceptor in
+    let longer = length_reaching s.own.acceptors slot acceptor in
     record {
       base = is.base;
       own = own_with _ o idle s.own (acceptors_with s.own.acceptors slot acceptor low valid is.own.acceptors) few is.own;

@@ -22,7 +22,7 @@ use Rattle.node_rules.proofs.Kept.{comes_valid, told_valid, Keeping, Keeps}
 use Rattle.shard_node.specs.States.{ReplicaState, with_log}
 use Rattle.shard_node.specs.Restart.{fit, fit_records, reset_of}
 use Rattle.shard_node.specs.Sound.{IsReplica}
-use Rattle.shard_node.proofs.Restarts.{same-fit, fits_known, fits_records}
+use Rattle.shard_node.proofs.Restarts.{same_fit, fits_known, fits_records}
 use Rattle.shard_node.proofs.Places.{Says, Stores, Changes, reports, copies, tells_length, promises, fetched, confirms, acks_again, acks_fate, fates, appends, copied, fills, holds, covers, replica_places}
 
 abbrev pub replica_keeping : Keeping ReplicaState
@@ -126,9 +126,9 @@ module _ (n : Node ReplicaState) (event : Event) (valid : IsValidEvent event) wh
     says = says_valid;
     stores = λ s item own why is. let kept = stores_valid s item own why is in (kept.0, kept.1);
     changes = λ s own why is. (changes_kept s own why is).0;
-    leads_known = λ a s entry sure leads. same-fit a s (items.Known entry) leads ∙ ap reset_of (fits_known s entry sure.0);
+    leads_known = λ a s entry sure leads. same_fit a s (items.Known entry) leads ∙ ap reset_of (fits_known s entry sure.0);
     leads_seen = λ a s count leads. leads;
     leads_ticked = λ a s leads. leads;
-    leads_stored = λ a s item own why is leads. same-fit a s item leads ∙ (stores_valid s item own why is).2;
+    leads_stored = λ a s item own why is leads. same_fit a s item leads ∙ (stores_valid s item own why is).2;
     leads_changed = λ a s own why leads. leads ∙ (changes_kept s own why.0 why.1).1;
   }

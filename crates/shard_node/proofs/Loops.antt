@@ -2,7 +2,7 @@
 use Rattle.std.proofs.Common.{◌≡◌, ℕ, ◌+◌, ◌-◌, ◌≤◌, [], ◌∷◌, ap, sym, ◌∙◌, arith, suc, ◌<◌, Bool, List, Option, Some, refl}
 use Rattle.std.specs.List.{fold, range_with_len, take_while}
 use Rattle.std.proofs.lemmas.List.Sums.{fold-append, take_while-cons}
-use Rattle.fix_ante.proofs.LocalLemmas.{range_with_len-append}
+use Rattle.fix_ante.proofs.LocalLemmas.{range_with_len_append}
 use Rattle.std.specs.Prelude.{is_some, slice_get}
 use Rattle.std.proofs.lemmas.Bool.{cond-true}
 use Rattle.cut_core.specs.Map.{leased}
@@ -20,7 +20,7 @@ fold_next f t from local above =
     let more : local + 1 - from ≡ local - from + 1 = omega arith in
     let here : from + (local - from) ≡ local = omega arith in
     ap (λ (n : ℕ). fold f t (range_with_len from n)) more
-    ∙ ap (fold f t) (sym (range_with_len-append from (local - from) 1))
+    ∙ ap (fold f t) (sym (range_with_len_append from (local - from) 1))
     ∙ fold-append f t (range_with_len from (local - from)) ((from + (local - from)) ∷ [])
     ∙ ap (f (fold f t (range_with_len from (local - from)))) here
 

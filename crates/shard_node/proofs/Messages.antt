@@ -2,7 +2,7 @@
 use Rattle.std.proofs.Common.{List, ◌++◌, ◌∙◌, arith}
 use Rattle.std.proofs.lemmas.List.{length-append}
 use Rattle.std.proofs.lemmas.Option.{slice_get_within}
-use Rattle.fix_ante.proofs.Entries.{slice_get-append_left}
+use Rattle.fix_ante.proofs.Entries.{slice_get_append_left}
 use Rattle.node_rules.specs.Names.{NodeId, Record, Item, What, Event}
 use Rattle.node_rules.specs.Names.whats
 use Rattle.node_rules.specs.Nodes.{Node}
@@ -24,8 +24,8 @@ said n event s to _ _ = tt
 grows : (log more : List Record) (what : What) → IsTrueOf log what → IsTrueOf (log ++ more) what
 grows log more (whats.Report len) before = omega (arith, before, length-append log more)
 grows log more (whats.Replicated len) before = omega (arith, before, length-append log more)
-grows log more (whats.Replicate local rec) before = slice_get-append_left log more local (slice_get_within log local rec before) ∙ before
-grows log more (whats.Deliver local rec) before = slice_get-append_left log more local (slice_get_within log local rec before) ∙ before
+grows log more (whats.Replicate local rec) before = slice_get_append_left log more local (slice_get_within log local rec before) ∙ before
+grows log more (whats.Deliver local rec) before = slice_get_append_left log more local (slice_get_within log local rec before) ∙ before
 grows log more _ before = tt
 
 stored : (n : Node ReplicaState) (event : Event) (s : Node ReplicaState) (item : Item) (own : ReplicaState) (what : What) → Stores n event s item own

@@ -14,21 +14,21 @@ either : {A B : Type 0} → (f : A → B) (b : Bool) (x y v w : A) → f x ≡ f
 either f true x y v w first second = first
 either f false x y v w first second = second
 
-reset-fit_known : (entry : Entry) (n : Node ReplicaState) → reset_of (fit_known entry n) ≡ reset_of (fit_known entry (reset_of n))
-reset-fit_known entry n = either reset_of (has_slot n.base) _ n _ (reset_of n) refl refl
+reset_fit_known : (entry : Entry) (n : Node ReplicaState) → reset_of (fit_known entry n) ≡ reset_of (fit_known entry (reset_of n))
+reset_fit_known entry n = either reset_of (has_slot n.base) _ n _ (reset_of n) refl refl
 
-reset-fit_records : (recs : List Record) (n : Node ReplicaState) → reset_of (fit_records recs n) ≡ reset_of (fit_records recs (reset_of n))
-reset-fit_records recs n = either reset_of (nat_le (length n.own.log + length recs) (2 ^ 48)) _ n _ (reset_of n) refl refl
+reset_fit_records : (recs : List Record) (n : Node ReplicaState) → reset_of (fit_records recs n) ≡ reset_of (fit_records recs (reset_of n))
+reset_fit_records recs n = either reset_of (nat_le (length n.own.log + length recs) (2 ^ 48)) _ n _ (reset_of n) refl refl
 
-reset-fit : (n : Node ReplicaState) (item : Item) → reset_of (fit n item) ≡ reset_of (fit (reset_of n) item)
-reset-fit n (items.Known entry) = reset-fit_known entry n
-reset-fit n (items.Taken rec) = reset-fit_records (rec ∷ []) n
-reset-fit n (items.Noops count) = reset-fit_records (replicate count records.Noop) n
-reset-fit n _ = refl
+reset_fit : (n : Node ReplicaState) (item : Item) → reset_of (fit n item) ≡ reset_of (fit (reset_of n) item)
+reset_fit n (items.Known entry) = reset_fit_known entry n
+reset_fit n (items.Taken rec) = reset_fit_records (rec ∷ []) n
+reset_fit n (items.Noops count) = reset_fit_records (replicate count records.Noop) n
+reset_fit n _ = refl
 
 -- nodes of which a restart leaves the same are left the same by the same item
-pub same-fit : (m n : Node ReplicaState) (item : Item) → reset_of m ≡ reset_of n → reset_of (fit m item) ≡ reset_of (fit n item)
-same-fit m n item e = reset-fit m item ∙ ap (λ (x : Node ReplicaState). reset_of (fit x item)) e ∙ sym (reset-fit n item)
+pub same_fit : (m n : Node ReplicaState) (item : Item) → reset_of m ≡ reset_of n → reset_of (fit m item) ≡ reset_of (fit n item)
+same_fit m n item e = reset_fit m item ∙ ap (λ (x : Node ReplicaState). reset_of (fit x item)) e ∙ sym (reset_fit n item)
 
 -- ---- one more item that fits
 

@@ -12,7 +12,7 @@ use Rattle.cut_core.specs.declared.effects.Effect.TheVariants.{Removed}
 use Rattle.cut_core.specs.Agreements.{Agreement}
 use Rattle.cut_core.specs.Effects.{effect_of}
 use Rattle.cut_core.specs.Map.{covered_locals, gone_end, placed, leased}
-use Rattle.fix_ante.proofs.Entries.{slice_get-append_right}
+use Rattle.fix_ante.proofs.Entries.{slice_get_append_right}
 use Rattle.msg_wire.specs.Heeded.{goes_between}
 use Rattle.msg_wire.specs.Nodes.{is_node_of, is_sequencer, is_client, is_primary, number_of, same_node, sequencers_of, consumers_of}
 use Rattle.node_rules.specs.Names.{NodeId, Entry, Record, What, Event}
@@ -53,7 +53,7 @@ filled_at : (log : List Record) (count i : ℕ) → length log ≤ i → i < len
 filled_at log count i from below =
     let at : length log + (i - length log) ≡ i = omega arith in
     subst (λ (k : ℕ). slice_get (log ++ replicate count records.Noop) k ≡ Some records.Noop) at
-    (slice_get-append_right log (replicate count records.Noop) (length log) (i - length log) refl ∙ noop_at count (i - length log) (omega arith))
+    (slice_get_append_right log (replicate count records.Noop) (length log) (i - length log) refl ∙ noop_at count (i - length log) (omega arith))
 
 -- ---- what comes to a primary
 

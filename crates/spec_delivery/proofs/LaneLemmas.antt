@@ -47,49 +47,49 @@ past a b h = elim (nat_lt a b) as (λ t. nat_lt a b ≡ t → cond t Less (cond 
 
 -- what holds of each local that is held
 module _ (P : ℕ → Type 0) where
-  pub all-insert : (es : List (ℕ × Record)) (k : ℕ) (r : Record) → AllByRecursion (λ e. P e.0) es → P k
+  pub all_insert : (es : List (ℕ × Record)) (k : ℕ) (r : Record) → AllByRecursion (λ e. P e.0) es → P k
       → AllByRecursion (λ e. P e.0) (insert_entry nat_cmp es k r)
-  all-insert [] k r h here = (here, tt)
-  all-insert (e ∷ es) k r h here =
+  all_insert [] k r h here = (here, tt)
+  all_insert (e ∷ es) k r h here =
       elim (nat_cmp k e.0) as (λ o. AllByRecursion (λ e. P e.0) (match_ordering o ((k, r) ∷ e ∷ es) ((e.0, r) ∷ es) (e ∷ insert_entry nat_cmp es k r))) [
         | Less ↦ (here, h)
         | Equal ↦ (h.0, h.1)
-        | Greater ↦ (h.0, all-insert es k r h.1 here)
+        | Greater ↦ (h.0, all_insert es k r h.1 here)
       ]
 
-  pub all-remove : (test : ℕ → Bool) (es : List (ℕ × Record)) → AllByRecursion (λ e. P e.0) es → AllByRecursion (λ e. P e.0) (remove_entry test es)
-  all-remove test [] h = tt
-  all-remove test (e ∷ es) h =
+  pub all_remove : (test : ℕ → Bool) (es : List (ℕ × Record)) → AllByRecursion (λ e. P e.0) es → AllByRecursion (λ e. P e.0) (remove_entry test es)
+  all_remove test [] h = tt
+  all_remove test (e ∷ es) h =
       elim (test e.0) as (λ b. AllByRecursion (λ e. P e.0) (cond b es (e ∷ remove_entry test es))) [
         | true ↦ h.1
-        | false ↦ (h.0, all-remove test es h.1)
+        | false ↦ (h.0, all_remove test es h.1)
       ]
 
-  pub all-lookup : (local : ℕ) (es : List (ℕ × Record)) → AllByRecursion (λ e. P e.0) es → IsSome (lookup (eq_by_cmp nat_cmp local) es) → P local
-  all-lookup local [] h found = cc
-  all-lookup local (e ∷ es) h found =
+  pub all_lookup : (local : ℕ) (es : List (ℕ × Record)) → AllByRecursion (λ e. P e.0) es → IsSome (lookup (eq_by_cmp nat_cmp local) es) → P local
+  all_lookup local [] h found = cc
+  all_lookup local (e ∷ es) h found =
       elim (eq_by_cmp nat_cmp local e.0) as (λ b. eq_by_cmp nat_cmp local e.0 ≡ b → IsSome (cond b (Some e.1) (lookup (eq_by_cmp nat_cmp local) es)) → P local) [
         | true ↦ λ same _. rw (same_local local e.0 same) h.0
-        | false ↦ λ _ rest. all-lookup local es h.1 rest
+        | false ↦ λ _ rest. all_lookup local es h.1 rest
       ] refl found
 
-  pub all-filter : (end : ℕ) (es : List (ℕ × Record)) → AllByRecursion (λ e. P e.0) es
+  pub all_filter : (end : ℕ) (es : List (ℕ × Record)) → AllByRecursion (λ e. P e.0) es
       → AllByRecursion (λ e. P e.0 × e.0 < end) (filter (λ e. nat_lt e.0 end) es)
-  all-filter end [] h = tt
-  all-filter end (e ∷ es) h =
+  all_filter end [] h = tt
+  all_filter end (e ∷ es) h =
       elim (nat_lt e.0 end) as (λ b. nat_lt e.0 end ≡ b → AllByRecursion (λ e. P e.0 × e.0 < end) (cond b (e ∷ filter (λ e. nat_lt e.0 end) es) (filter (λ e. nat_lt e.0 end) es))) [
-        | true ↦ λ below. ((h.0, lower e.0 end below), all-filter end es h.1)
-        | false ↦ λ _. all-filter end es h.1
+        | true ↦ λ below. ((h.0, lower e.0 end below), all_filter end es h.1)
+        | false ↦ λ _. all_filter end es h.1
       ] refl
 
-pub all-both : (P Q R : ℕ × Record → Type 0) → ((e : ℕ × Record) → P e → Q e → R e) → (es : List (ℕ × Record)) → AllByRecursion P es → AllByRecursion Q es
+pub all_both : (P Q R : ℕ × Record → Type 0) → ((e : ℕ × Record) → P e → Q e → R e) → (es : List (ℕ × Record)) → AllByRecursion P es → AllByRecursion Q es
     → AllByRecursion R es
-all-both P Q R both [] h k = tt
-all-both P Q R both (e ∷ es) h k = (both e h.0 k.0, all-both P Q R both es h.1 k.1)
+all_both P Q R both [] h k = tt
+all_both P Q R both (e ∷ es) h k = (both e h.0 k.0, all_both P Q R both es h.1 k.1)
 
-all-one : (P R : ℕ × Record → Type 0) → ((e : ℕ × Record) → P e → R e) → (es : List (ℕ × Record)) → AllByRecursion P es → AllByRecursion R es
-all-one P R one [] h = tt
-all-one P R one (e ∷ es) h = (one e h.0, all-one P R one es h.1)
+all_one : (P R : ℕ × Record → Type 0) → ((e : ℕ × Record) → P e → R e) → (es : List (ℕ × Record)) → AllByRecursion P es → AllByRecursion R es
+all_one P R one [] h = tt
+all_one P R one (e ∷ es) h = (one e h.0, all_one P R one es h.1)
 
 -- what is held is in reach of the lane that follows
 pub reach_raised : (floor : ℕ) (end : Option ℕ) (old new : List (ℕ × Record)) → HoldsInReach (record { floor = floor; end = end; held = old })
@@ -98,16 +98,16 @@ pub reach_raised : (floor : ℕ) (end : Option ℕ) (old new : List (ℕ × Reco
 reach_raised floor end old new h is gone =
     let lane : LaneState = record { floor = floor; end = end; held = old } in
     let next : LaneState = record { floor = floor + 1; end = end; held = new } in
-    let stay : AllByRecursion (λ e. IsInReach lane e.0) new = rw is (all-remove (IsInReach lane) (eq_by_cmp nat_cmp floor) old h) in
+    let stay : AllByRecursion (λ e. IsInReach lane e.0) new = rw is (all_remove (IsInReach lane) (eq_by_cmp nat_cmp floor) old h) in
     let others : AllByRecursion (λ e. eq_by_cmp nat_cmp floor e.0 ≡ false) new = none_passes_from_lookup (eq_by_cmp nat_cmp floor) new gone in
-    all-both (λ e. IsInReach lane e.0) (λ e. eq_by_cmp nat_cmp floor e.0 ≡ false) (λ e. IsInReach next e.0) (λ e r other. (apart floor e.0 r.0 other, omega (arith, r.1), r.2)) new stay others
+    all_both (λ e. IsInReach lane e.0) (λ e. eq_by_cmp nat_cmp floor e.0 ≡ false) (λ e. IsInReach next e.0) (λ e r other. (apart floor e.0 r.0 other, omega (arith, r.1), r.2)) new stay others
 
 pub reach_closed : (floor : ℕ) (end : Option ℕ) (new_end : ℕ) (old new : List (ℕ × Record)) → HoldsInReach (record { floor = floor; end = end; held = old })
     → new ≡ filter (λ e. nat_lt e.0 new_end) old → HoldsInReach (record { floor = floor; end = Some new_end; held = new })
 reach_closed floor end new_end old new h is =
     let lane : LaneState = record { floor = floor; end = end; held = old } in
     let next : LaneState = record { floor = floor; end = Some new_end; held = new } in
-    rw is (all-one (λ e. IsInReach lane e.0 × e.0 < new_end) (λ e. IsInReach next e.0) (λ e r. (r.0.0, r.0.1, r.1)) (filter (λ e. nat_lt e.0 new_end) old) (all-filter (IsInReach lane) new_end old h))
+    rw is (all_one (λ e. IsInReach lane e.0 × e.0 < new_end) (λ e. IsInReach next e.0) (λ e r. (r.0.0, r.0.1, r.1)) (filter (λ e. nat_lt e.0 new_end) old) (all_filter (IsInReach lane) new_end old h))
 
 -- what is held is in order, so there are no more records than locals in reach
 all_past : (k : ℕ) (es : List (ℕ × Record)) → AllByRecursion (λ y. nat_cmp k y ≡ Less) (keys_of es) → AllByRecursion (λ e. k + 1 ≤ e.0) es
@@ -123,8 +123,8 @@ few_between low high (e ∷ es) least most order =
 
 few_held : (lane : LaneState) → HoldsInReach lane → IsStrictlySortedBy nat_cmp (keys_of lane.held) → length lane.held ≤ 640
 few_held lane h order =
-    let least : AllByRecursion (λ e. lane.floor ≤ e.0) lane.held = all-one (λ e. IsInReach lane e.0) (λ e. lane.floor ≤ e.0) (λ e r. r.0) lane.held h in
-    let most : AllByRecursion (λ e. e.0 < lane.floor + 640) lane.held = all-one (λ e. IsInReach lane e.0) (λ e. e.0 < lane.floor + 640) (λ e r. r.1) lane.held h in
+    let least : AllByRecursion (λ e. lane.floor ≤ e.0) lane.held = all_one (λ e. IsInReach lane e.0) (λ e. lane.floor ≤ e.0) (λ e r. r.0) lane.held h in
+    let most : AllByRecursion (λ e. e.0 < lane.floor + 640) lane.held = all_one (λ e. IsInReach lane e.0) (λ e. e.0 < lane.floor + 640) (λ e r. r.1) lane.held h in
     let few : length lane.held ≤ lane.floor + 640 - lane.floor = few_between lane.floor (lane.floor + 640) lane.held least most order in
     omega arith
 
@@ -135,7 +135,7 @@ few_along lane now is h order = let P : LaneState → Type 0 = λ l. length l.he
 pub reach_along : (lane now : LaneState) → lane ≡ now → HoldsInReach lane → (local : ℕ) → IsSome (held_at now local) → IsInReach now local
 reach_along lane now is h local =
     let P : LaneState → Type 0 = λ l. IsSome (held_at l local) → IsInReach l local in
-    subst P is (all-lookup (IsInReach lane) local lane.held h)
+    subst P is (all_lookup (IsInReach lane) local lane.held h)
 
 pub in_reach_along : (lane now : LaneState) → lane ≡ now → (local : ℕ) → IsInReach now local → IsInReach lane local
 in_reach_along lane now is local h = let P : LaneState → Type 0 = λ l. IsInReach l local in subst P (sym is) h

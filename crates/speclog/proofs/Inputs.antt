@@ -65,19 +65,19 @@ is_within cfg at p (first ∷ later) e h =
     step_within at (length later) (input_fault at p first) (fault_from cfg (at + 1) next later) e (input_at at p first) (is_within cfg (at + 1) next later) h
 
 -- an input that is refused is one of those that were given
-pub refused-within : (cfg : Config) (given : List Input) (e : PlayError) → play_fault cfg given ≡ Some e → IsWithin (length given) e
-refused-within cfg given e h = let same : 0 + length given ≡ length given = omega (arith) in subst (λ count. IsWithin count e) same (is_within cfg 0 nothing_played given e h)
+pub refused_within : (cfg : Config) (given : List Input) (e : PlayError) → play_fault cfg given ≡ Some e → IsWithin (length given) e
+refused_within cfg given e h = let same : 0 + length given ≡ length given = omega (arith) in subst (λ count. IsWithin count e) same (is_within cfg 0 nothing_played given e h)
 
 -- what `play` answers
-pub refusal-within : (cfg : Config) (given : List Input) (e : PlayError) → IsRefusal cfg given e → IsWithin (length given) e
-refusal-within cfg given (NoMessage place number known) r = refused-within cfg given (NoMessage place number known) r
-refusal-within cfg given (TooLong place) r = refused-within cfg given (TooLong place) r
-refusal-within cfg given OutOfMemory r = tt
+pub refusal_within : (cfg : Config) (given : List Input) (e : PlayError) → IsRefusal cfg given e → IsWithin (length given) e
+refusal_within cfg given (NoMessage place number known) r = refused_within cfg given (NoMessage place number known) r
+refusal_within cfg given (TooLong place) r = refused_within cfg given (TooLong place) r
+refusal_within cfg given OutOfMemory r = tt
 
 -- ---- lines
 
 -- each input has a line
-pub lines-as-many : (lines : List Line) (cfg : Config) (given : List Input) (numbers : List ℕ) → SpellsLines lines cfg given numbers
+pub lines_as_many : (lines : List Line) (cfg : Config) (given : List Input) (numbers : List ℕ) → SpellsLines lines cfg given numbers
     → length numbers ≡ length given
-lines-as-many lines cfg given numbers s =
+lines_as_many lines cfg given numbers s =
     ap (λ (xs : List ℕ). length xs) s.numbers_are ∙ (length-map (drop 6 lines) (λ (l : Line). l.number) ∙ sym (AllZip-long (λ (l : Line). SpellsInput l.bytes) (drop 6 lines) given s.inputs_are))

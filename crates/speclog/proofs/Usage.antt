@@ -22,7 +22,7 @@ speaks_of_words left taken word history = record {
 }
 
 -- nothing was read, and nothing is out
-pub usage-speaks : (left taken : Option (List ℕ)) (word : ℕ) (fault : Option Fault) (history : Option (List HistoryEntry)) → fault ≡ Some (Usage word)
+pub usage_speaks : (left taken : Option (List ℕ)) (word : ℕ) (fault : Option Fault) (history : Option (List HistoryEntry)) → fault ≡ Some (Usage word)
     → SpeaksOf left left taken taken fault history
-usage-speaks left taken word fault history is =
+usage_speaks left taken word fault history is =
     subst (λ (f : Option Fault). SpeaksOf left left taken taken f history) (sym is) (speaks_of_words left taken word history)

@@ -11,8 +11,8 @@ use Rattle.submit_desk.specs.declared.knows.Closed.{Closed}
 use Rattle.submit_desk.specs.declared.knows.Knows.{Knows}
 use Rattle.submit_desk.specs.Passes.{items_of, taker, submitter, seated, closed_by, spent}
 use Rattle.submit_desk.specs.Rule.{DeskHistory, Fits, IsUnused, IsClosed, Each, Delivers, Puts, Gets, EndsWith, Accounts}
-use Rattle.submit_desk.proofs.Items.{items_of-append, items_of-grow, items_of-stay, IsCounted-push, IsCounted-at, items_of-some}
-use Rattle.submit_desk.proofs.Views.{each_set, each_snoc, placed, placed-here, placed-else, all-weaker}
+use Rattle.submit_desk.proofs.Items.{items_of_append, items_of_grow, items_of_stay, IsCounted_push, IsCounted_at, items_of_some}
+use Rattle.submit_desk.proofs.Views.{each_set, each_snoc, placed, placed_here, placed_else, all_weaker}
 
 -- a pass that has no part of the history, but for what is said of it
 never : {A : Type 0} → false ≡ true → A
@@ -50,13 +50,13 @@ begins = (
 stays_submitted : (h : DeskHistory) (pass by : ℕ) (x : DeskItem) → h.seat by ≡ some pass → x.by ≡ by
     → (j : ℕ) (u : Knows) → j ≢ pass → Fits h j u → Fits (submitted h x) j u
 stays_submitted h pass by x at own j u other fits = (
-  (λ s. let o = fits.0 s in (o.0, o.1 ∙ sym (items_of-stay u.by h.all x (λ same. apart_pass h by u.by pass j at o.0 other (sym own ∙ same))))),
+  (λ s. let o = fits.0 s in (o.0, o.1 ∙ sym (items_of_stay u.by h.all x (λ same. apart_pass h by u.by pass j at o.0 other (sym own ∙ same))))),
   λ t. let o = fits.1 t in (
     o.0,
     o.1,
-    (λ b le. let f = o.2 b le in (f.0, items_of-stay b h.all x (λ same. apart_none h by b pass at f.0 (sym own ∙ same)) ∙ f.1)),
-    all-weaker (IsClosed h u.next) (IsClosed (submitted h x) u.next)
-        (λ c k. (k.0, k.1 ∙ sym (items_of-stay c.by h.all x (λ same. apart_none h by c.by pass at k.0 (sym own ∙ same))), k.2)) u.closed o.3,
+    (λ b le. let f = o.2 b le in (f.0, items_of_stay b h.all x (λ same. apart_none h by b pass at f.0 (sym own ∙ same)) ∙ f.1)),
+    all_weaker (IsClosed h u.next) (IsClosed (submitted h x) u.next)
+        (λ c k. (k.0, k.1 ∙ sym (items_of_stay c.by h.all x (λ same. apart_none h by c.by pass at k.0 (sym own ∙ same))), k.2)) u.closed o.3,
   ),
 )
 
@@ -69,8 +69,8 @@ submits n pass v x may own number items views _ holds at =
       (
         submitted h x,
         ap (λ l. l ++ x ∷ []) holds.1 ∙ append_assoc h.got items (x ∷ []),
-        IsCounted-push h.all x holds.2 (number ∙ ap length (mine.1 ∙ ap (λ b. items_of b h.all) (sym own))),
-        each_set (Fits (submitted h x)) views pass w ((λ _. (mine.0, ap (λ l. l ++ x ∷ []) mine.1 ∙ sym (items_of-grow v.by h.all x own))), never)
+        IsCounted_push h.all x holds.2 (number ∙ ap length (mine.1 ∙ ap (λ b. items_of b h.all) (sym own))),
+        each_set (Fits (submitted h x)) views pass w ((λ _. (mine.0, ap (λ l. l ++ x ∷ []) mine.1 ∙ sym (items_of_grow v.by h.all x own))), never)
             (λ j u other e. stays_submitted h pass v.by x mine.0 own j u other (holds.3 j u e)),
       ),
       refl,
@@ -81,7 +81,7 @@ of_used : (h : DeskHistory) (next : ℕ) (x : DeskItem) (items : List DeskItem) 
 of_used h next x items unused e = decided (dec_le next x.by)
   where
     decided : Dec (next ≤ x.by) → x.by < next
-    decided (yes le) = absurd (items_of-some h.all h.got x items e (unused x.by le).1)
+    decided (yes le) = absurd (items_of_some h.all h.got x items e (unused x.by le).1)
     decided (no not_le) = lt_of_not-le not_le
 
 pub takes : (pass : ℕ) (v : Knows) → v.takes ≡ true → Pops Delivers pass v (Gets v)
@@ -99,7 +99,7 @@ takes pass v may x items views holds at =
       ),
       (
         refl,
-        IsCounted-at h.all h.got x items holds.2 holds.1 ∙ ap (λ l. length (items_of x.by l)) (sym mine.1),
+        IsCounted_at h.all h.got x items holds.2 holds.1 ∙ ap (λ l. length (items_of x.by l)) (sym mine.1),
         of_used h v.next x items mine.2 holds.1,
       ),
     )
@@ -112,9 +112,9 @@ seated_fits h pass by new v is above got unused closed = (
   λ _. (
     sym is,
     got,
-    (λ b le. let f = unused b (omega arith) in (placed-else by (some new) h.seat b (λ same. omega arith) ∙ f.0, f.1)),
-    all-weaker (IsClosed h v.next) (IsClosed (seats h by (some new)) (by + 1))
-        (λ c k. (placed-else by (some new) h.seat c.by (λ same. omega (arith, k.2)) ∙ k.0, k.1, omega (arith, k.2))) v.closed closed,
+    (λ b le. let f = unused b (omega arith) in (placed_else by (some new) h.seat b (λ same. omega arith) ∙ f.0, f.1)),
+    all_weaker (IsClosed h v.next) (IsClosed (seats h by (some new)) (by + 1))
+        (λ c k. (placed_else by (some new) h.seat c.by (λ same. omega (arith, k.2)) ∙ k.0, k.1, omega (arith, k.2))) v.closed closed,
   ),
 )
 
@@ -127,10 +127,10 @@ splits pass v by may above items views holds at =
     let h' : DeskHistory = seats h by (some (length vs)) in
     let kept : Each (Fits h') vs = each_set (Fits h') views pass l (seated_fits h pass by (length vs) v (sym mine.0) above mine.1 mine.2 mine.3)
     (λ j u other e. let fits = holds.3 j u e in (
-      (λ s. let o = fits.0 s in (placed-else by (some (length vs)) h.seat u.by (apart_none h u.by by j o.0 (mine.2 by above).0) ∙ o.0, o.1)),
+      (λ s. let o = fits.0 s in (placed_else by (some (length vs)) h.seat u.by (apart_none h u.by by j o.0 (mine.2 by above).0) ∙ o.0, o.1)),
       λ t. absurd (other ((fits.1 t).0 ∙ sym mine.0)),
     )) in
-    (h', holds.1, holds.2, each_snoc (Fits h') vs (submitter by []) kept ((λ _. (placed-here by (some (length vs)) h.seat, sym (mine.2 by above).1)), never))
+    (h', holds.1, holds.2, each_snoc (Fits h') vs (submitter by []) kept ((λ _. (placed_here by (some (length vs)) h.seat, sym (mine.2 by above).1)), never))
 
 -- the taking pass's part once a submitter's pass is back
 closed_fits : (h : DeskHistory) (pass other : ℕ) (v w : Knows) → (pass ≡ h.taking) → (v.got ≡ h.got) → IsUnused h v.next
@@ -142,14 +142,14 @@ closed_fits h pass other v w is got unused closed at put = (
     got,
     (λ b le. let f = unused b le in (vacant b f.0, f.1)),
     (
-      (placed-here w.by none h.seat, put, used (dec_le v.next w.by)),
-      all-weaker (IsClosed h v.next) (IsClosed (seats h w.by none) v.next) (λ c k. (vacant c.by k.0, k.1, k.2)) v.closed closed,
+      (placed_here w.by none h.seat, put, used (dec_le v.next w.by)),
+      all_weaker (IsClosed h v.next) (IsClosed (seats h w.by none) v.next) (λ c k. (vacant c.by k.0, k.1, k.2)) v.closed closed,
     ),
   ),
 )
   where
     vacant : (b : ℕ) → h.seat b ≡ none → placed w.by none h.seat b ≡ none
-    vacant b e = placed-else w.by none h.seat b (λ same. apart_none h w.by b other at e (sym same)) ∙ e
+    vacant b e = placed_else w.by none h.seat b (λ same. apart_none h w.by b other at e (sym same)) ∙ e
 
     used : Dec (v.next ≤ w.by) → w.by < v.next
     used (yes le) = absurd (some-ne-none other (sym at ∙ (unused w.by le).0))
@@ -167,7 +167,7 @@ joins pass v other w may theirs_may items views holds at two at' =
     let Now : ℕ → Knows → Type 0 = λ j u. j ≢ other → Fits h' j u in
     let now : Each Now vs = each_set Now views pass both (λ _. closed_fits h pass other v w mine.0 mine.1 mine.2 mine.3 theirs.0 theirs.1)
     (λ j u differs e away. let fits = holds.3 j u e in (
-      (λ s. let o = fits.0 s in (placed-else w.by none h.seat u.by (λ same. apart_pass h w.by u.by other j theirs.0 o.0 away (sym same)) ∙ o.0, o.1)),
+      (λ s. let o = fits.0 s in (placed_else w.by none h.seat u.by (λ same. apart_pass h w.by u.by other j theirs.0 o.0 away (sym same)) ∙ o.0, o.1)),
       λ t. absurd (differs ((fits.1 t).0 ∙ sym mine.0)),
     )) in
     (h', holds.1, holds.2, each_set (Fits h') vs other spent (never, never) (λ j u away e. now j u e away))
@@ -176,11 +176,11 @@ pub lies : (pass : ℕ) (v : Knows) → v.submits ≡ true → Learns Delivers p
 lies pass v may items views holds at =
     let h = holds.0 in
     let mine = (holds.3 pass v at).0 may in
-    (items_of v.by h.got, mine.1 ∙ ap (items_of v.by) holds.1 ∙ items_of-append v.by h.got items)
+    (items_of v.by h.got, mine.1 ∙ ap (items_of v.by) holds.1 ∙ items_of_append v.by h.got items)
 
 pub accounts : (pass : ℕ) (v : Knows) → v.takes ≡ true → Learns Delivers pass v (Accounts v)
 accounts pass v may items views holds at =
     let h = holds.0 in
     let mine = (holds.3 pass v at).1 may in
-    all-weaker (IsClosed h v.next) (λ (c : Closed). c.put ≡ items_of c.by v.got ++ items_of c.by items)
-    (λ c k. k.1 ∙ ap (items_of c.by) holds.1 ∙ items_of-append c.by h.got items ∙ ap (λ l. items_of c.by l ++ items_of c.by items) (sym mine.1)) v.closed mine.3
+    all_weaker (IsClosed h v.next) (λ (c : Closed). c.put ≡ items_of c.by v.got ++ items_of c.by items)
+    (λ c k. k.1 ∙ ap (items_of c.by) holds.1 ∙ items_of_append c.by h.got items ∙ ap (λ l. items_of c.by l ++ items_of c.by items) (sym mine.1)) v.closed mine.3

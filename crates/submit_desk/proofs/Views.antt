@@ -33,12 +33,12 @@ each_snoc F views w before last j u e = ⊎_elim
 abbrev pub placed : ℕ → Option ℕ → (ℕ → Option ℕ) → ℕ → Option ℕ
 placed by value seat b = cond (eqb b by) value (seat b)
 
-pub placed-here : (by : ℕ) (value : Option ℕ) (seat : ℕ → Option ℕ) → placed by value seat by ≡ value
-placed-here by value seat = ap (λ c. cond c value (seat by)) (eq-eqb by by refl)
+pub placed_here : (by : ℕ) (value : Option ℕ) (seat : ℕ → Option ℕ) → placed by value seat by ≡ value
+placed_here by value seat = ap (λ c. cond c value (seat by)) (eq-eqb by by refl)
 
-pub placed-else : (by : ℕ) (value : Option ℕ) (seat : ℕ → Option ℕ) (b : ℕ) → b ≢ by → placed by value seat b ≡ seat b
-placed-else by value seat b other = ap (λ c. cond c value (seat b)) (ne_eqb b by other)
+pub placed_else : (by : ℕ) (value : Option ℕ) (seat : ℕ → Option ℕ) (b : ℕ) → b ≢ by → placed by value seat b ≡ seat b
+placed_else by value seat b other = ap (λ c. cond c value (seat b)) (ne_eqb b by other)
 
-pub all-weaker : {X : Type 0} (P Q : X → Type 0) → ((x : X) → P x → Q x) → (xs : List X) → AllByRecursion P xs → AllByRecursion Q xs
-all-weaker P Q f [] h = tt
-all-weaker P Q f (x ∷ xs) h = (f x h.0, all-weaker P Q f xs h.1)
+pub all_weaker : {X : Type 0} (P Q : X → Type 0) → ((x : X) → P x → Q x) → (xs : List X) → AllByRecursion P xs → AllByRecursion Q xs
+all_weaker P Q f [] h = tt
+all_weaker P Q f (x ∷ xs) h = (f x h.0, all_weaker P Q f xs h.1)

@@ -4,9 +4,9 @@ use Rattle.std.proofs.lemmas.Bool.Decides.{nat_tests}
 use Rattle.record_codec.specs.declared.record.Record.{Record}
 use Rattle.app_law.specs.Folds.{fold_of}
 use Rattle.app_law.specs.Positions.{below, from_on, IsRising}
-use Rattle.app_law.proofs.PositionLemmas.{below-first, from_on-first, below-above, from_on-above, all_above}
+use Rattle.app_law.proofs.PositionLemmas.{below_first, from_on_first, below_above, from_on_above, all_above}
 use Rattle.undo_points.specs.declared.points.UndoPoint.{UndoPoint}
-use Rattle.app_law.proofs.PositionLemmas.{below-push, from_on-push, below-past, from_on-past}
+use Rattle.app_law.proofs.PositionLemmas.{below_push, from_on_push, below_past, from_on_past}
 use Rattle.app_law.proofs.EndLemmas.{Newest, Oldest}
 use Rattle.app_law.specs.Positions.{IsPast}
 use Rattle.undo_points.specs.Points.{Points, point_position, pushed, points_below, points_from, taken_back, Gave}
@@ -19,36 +19,36 @@ lower_or_not m n = elim (nat_lt m n) as (λ b. nat_lt m n ≡ b → (m < n) ⊎ 
 ] refl
 
 -- the newest point is taken back first
-pub taken_back-push : {S U : Type 0} (restored : U → S → S) (points : List (UndoPoint U)) (x : UndoPoint U) (s : S)
+pub taken_back_push : {S U : Type 0} (restored : U → S → S) (points : List (UndoPoint U)) (x : UndoPoint U) (s : S)
     → taken_back restored (points ++ x ∷ []) s ≡ taken_back restored points (restored x.undo s)
-taken_back-push restored [] x s = refl
-taken_back-push restored (y ∷ points) x s = ap (restored y.undo) (taken_back-push restored points x s)
+taken_back_push restored [] x s = refl
+taken_back_push restored (y ∷ points) x s = ap (restored y.undo) (taken_back_push restored points x s)
 
 -- the points from a position on take a state back to the one that stood before it
-pub taken_back-is : {S U : Type 0} (next : S → Record → S) (restored : U → S → S) (p : ℕ) (s : S) (log : List Record) (points : List (UndoPoint U))
+pub taken_back_is : {S U : Type 0} (next : S → Record → S) (restored : U → S → S) (p : ℕ) (s : S) (log : List Record) (points : List (UndoPoint U))
     → IsRising point_position points → Gave next restored s log points
     → taken_back restored (from_on point_position p points) (fold_of next s log) ≡ fold_of next s (take (length (below point_position p points)) log)
-taken_back-is next restored p s [] [] rising gave = refl
-taken_back-is next restored p s [] (x ∷ points) rising gave = absurd gave
-taken_back-is next restored p s (r ∷ log) [] rising gave = absurd gave
-taken_back-is next restored p s (r ∷ log) (x ∷ points) rising gave =
-    let rest = taken_back-is next restored p (next s r) log points rising.1 gave.1 in
+taken_back_is next restored p s [] [] rising gave = refl
+taken_back_is next restored p s [] (x ∷ points) rising gave = absurd gave
+taken_back_is next restored p s (r ∷ log) [] rising gave = absurd gave
+taken_back_is next restored p s (r ∷ log) (x ∷ points) rising gave =
+    let rest = taken_back_is next restored p (next s r) log points rising.1 gave.1 in
     elim (lower_or_not x.position p) [
-      | inl h ↦ rw (from_on-first point_position p x points h, below-first point_position p x points h) rest
+      | inl h ↦ rw (from_on_first point_position p x points h, below_first point_position p x points h) rest
       | inr h ↦
           let above = all_above point_position p x.position points h rising.0 in
           let before : taken_back restored points (fold_of next (next s r) log) ≡ next s r = rw above.1 at (rw above.0 at rest) in
-          rw (from_on-above point_position p x points rising h, below-above point_position p x points rising h) (ap (restored x.undo) before ∙ gave.0)
+          rw (from_on_above point_position p x points rising h, below_above point_position p x points rising h) (ap (restored x.undo) before ∙ gave.0)
     ]
 
 -- one more record, and the point that it gave
-pub Gave-push : {S U : Type 0} (next : S → Record → S) (restored : U → S → S) (s : S) (log : List Record) (points : List (UndoPoint U)) (r : Record) (x : UndoPoint U)
+pub Gave_push : {S U : Type 0} (next : S → Record → S) (restored : U → S → S) (s : S) (log : List Record) (points : List (UndoPoint U)) (r : Record) (x : UndoPoint U)
     → Gave next restored s log points → restored x.undo (next (fold_of next s log) r) ≡ fold_of next s log
     → Gave next restored s (log ++ r ∷ []) (points ++ x ∷ [])
-Gave-push next restored s [] [] r x gave undoes = (undoes, tt)
-Gave-push next restored s [] (y ∷ points) r x gave undoes = absurd gave
-Gave-push next restored s (q ∷ log) [] r x gave undoes = absurd gave
-Gave-push next restored s (q ∷ log) (y ∷ points) r x gave undoes = (gave.0, Gave-push next restored (next s q) log points r x gave.1 undoes)
+Gave_push next restored s [] [] r x gave undoes = (undoes, tt)
+Gave_push next restored s [] (y ∷ points) r x gave undoes = absurd gave
+Gave_push next restored s (q ∷ log) [] r x gave undoes = absurd gave
+Gave_push next restored s (q ∷ log) (y ∷ points) r x gave undoes = (gave.0, Gave_push next restored (next s q) log points r x gave.1 undoes)
 
 -- the points that stay, and the records that gave them; and those that are not forgotten, from the state before them
 abbrev GaveParts : {S U : Type 0} → (S → Record → S) → (U → S → S) → ℕ → S → List Record → List (UndoPoint U) → Type 0
@@ -56,27 +56,27 @@ GaveParts next restored p s log points =
     let under = below point_position p points in
     Gave next restored s (take (length under) log) under × Gave next restored (fold_of next s (take (length under) log)) (drop (length under) log) (from_on point_position p points)
 
-Gave-parts : {S U : Type 0} (next : S → Record → S) (restored : U → S → S) (p : ℕ) (s : S) (log : List Record) (points : List (UndoPoint U))
+Gave_parts : {S U : Type 0} (next : S → Record → S) (restored : U → S → S) (p : ℕ) (s : S) (log : List Record) (points : List (UndoPoint U))
     → IsRising point_position points → Gave next restored s log points → GaveParts next restored p s log points
-Gave-parts next restored p s [] [] rising gave = (tt, tt)
-Gave-parts next restored p s [] (x ∷ points) rising gave = absurd gave
-Gave-parts next restored p s (r ∷ log) [] rising gave = absurd gave
-Gave-parts next restored p s (r ∷ log) (x ∷ points) rising gave =
-    let rest = Gave-parts next restored p (next s r) log points rising.1 gave.1 in
+Gave_parts next restored p s [] [] rising gave = (tt, tt)
+Gave_parts next restored p s [] (x ∷ points) rising gave = absurd gave
+Gave_parts next restored p s (r ∷ log) [] rising gave = absurd gave
+Gave_parts next restored p s (r ∷ log) (x ∷ points) rising gave =
+    let rest = Gave_parts next restored p (next s r) log points rising.1 gave.1 in
     elim (lower_or_not x.position p) [
-      | inl h ↦ rw (from_on-first point_position p x points h, below-first point_position p x points h) ((gave.0, rest.0), rest.1)
-      | inr h ↦ rw (from_on-above point_position p x points rising h, below-above point_position p x points rising h) (tt, gave)
+      | inl h ↦ rw (from_on_first point_position p x points h, below_first point_position p x points h) ((gave.0, rest.0), rest.1)
+      | inr h ↦ rw (from_on_above point_position p x points rising h, below_above point_position p x points rising h) (tt, gave)
     ]
 
-pub Gave-below : {S U : Type 0} (next : S → Record → S) (restored : U → S → S) (p : ℕ) (s : S) (log : List Record) (points : List (UndoPoint U))
+pub Gave_below : {S U : Type 0} (next : S → Record → S) (restored : U → S → S) (p : ℕ) (s : S) (log : List Record) (points : List (UndoPoint U))
     → IsRising point_position points → Gave next restored s log points
     → Gave next restored s (take (length (below point_position p points)) log) (below point_position p points)
-Gave-below next restored p s log points rising gave = (Gave-parts next restored p s log points rising gave).0
+Gave_below next restored p s log points rising gave = (Gave_parts next restored p s log points rising gave).0
 
-pub Gave-from : {S U : Type 0} (next : S → Record → S) (restored : U → S → S) (p : ℕ) (s : S) (log : List Record) (points : List (UndoPoint U))
+pub Gave_from : {S U : Type 0} (next : S → Record → S) (restored : U → S → S) (p : ℕ) (s : S) (log : List Record) (points : List (UndoPoint U))
     → IsRising point_position points → Gave next restored s log points
     → Gave next restored (fold_of next s (take (length (below point_position p points)) log)) (drop (length (below point_position p points)) log) (from_on point_position p points)
-Gave-from next restored p s log points rising gave = (Gave-parts next restored p s log points rising gave).1
+Gave_from next restored p s log points rising gave = (Gave_parts next restored p s log points rising gave).1
 
 -- what a view of the points says, whichever way it is written
 pub rising_along : {U : Type 0} (v w : Points U) → v ≡ w → IsRising point_position v.held → IsRising point_position w.held
@@ -113,40 +113,40 @@ drops_some p m n old new now z room is h =
     (z.position, z.undo, h.0, sym is ∙ made m n old (z ∷ new) (sym room) h.1)
 
 -- a point at a position or past it makes no difference below
-pub below-pushed : {U : Type 0} (p at : ℕ) (undo : U) (old new : Points U) → p ≤ at → old ≡ pushed new at undo → points_below old p ≡ points_below new p
-below-pushed p at undo old new h e =
-    ap (λ v. points_below v p) e ∙ ap (λ held. record { room = new.room; held = held }) (below-push point_position p new.held (record { position = at; undo = undo }) h)
+pub below_pushed : {U : Type 0} (p at : ℕ) (undo : U) (old new : Points U) → p ≤ at → old ≡ pushed new at undo → points_below old p ≡ points_below new p
+below_pushed p at undo old new h e =
+    ap (λ v. points_below v p) e ∙ ap (λ held. record { room = new.room; held = held }) (below_push point_position p new.held (record { position = at; undo = undo }) h)
 
 -- and is taken back first
-pub back-pushed : {S U : Type 0} (restored : U → S → S) (p at : ℕ) (undo : U) (old new : Points U) (s : S) → p ≤ at → old ≡ pushed new at undo
+pub back_pushed : {S U : Type 0} (restored : U → S → S) (p at : ℕ) (undo : U) (old new : Points U) (s : S) → p ≤ at → old ≡ pushed new at undo
     → taken_back restored (from_on point_position p old.held) s ≡ taken_back restored (from_on point_position p new.held) (restored undo s)
-back-pushed {S} {U} restored p at undo old new s h e =
+back_pushed {S} {U} restored p at undo old new s h e =
     let x : UndoPoint U = record { position = at; undo = undo } in
-    ap (λ v. taken_back restored (from_on point_position p v.held) s) e ∙ (ap (λ held. taken_back restored held s) (from_on-push point_position p new.held x h) ∙ taken_back-push restored (from_on point_position p new.held) x s)
+    ap (λ v. taken_back restored (from_on point_position p v.held) s) e ∙ (ap (λ held. taken_back restored held s) (from_on_push point_position p new.held x h) ∙ taken_back_push restored (from_on point_position p new.held) x s)
 
 -- where all points stand below a position
-pub below-all : {U : Type 0} (p : ℕ) (v : Points U) → IsPast point_position v.held p → points_below v p ≡ v
-below-all p v h = ap (λ held. record { room = v.room; held = held }) (below-past point_position p v.held h)
+pub below_all : {U : Type 0} (p : ℕ) (v : Points U) → IsPast point_position v.held p → points_below v p ≡ v
+below_all p v h = ap (λ held. record { room = v.room; held = held }) (below_past point_position p v.held h)
 
-pub back-all : {S U : Type 0} (restored : U → S → S) (p : ℕ) (v : Points U) (s : S) → IsPast point_position v.held p
+pub back_all : {S U : Type 0} (restored : U → S → S) (p : ℕ) (v : Points U) (s : S) → IsPast point_position v.held p
     → taken_back restored (from_on point_position p v.held) s ≡ s
-back-all restored p v s h = ap (λ held. taken_back restored held s) (from_on-past point_position p v.held h)
+back_all restored p v s h = ap (λ held. taken_back restored held s) (from_on_past point_position p v.held h)
 
 -- a point below a position makes no difference from there on
-pub from-dropped : {U : Type 0} (p at : ℕ) (undo : U) (old new : Points U) → at < p
+pub from_dropped : {U : Type 0} (p at : ℕ) (undo : U) (old new : Points U) → at < p
     → old ≡ record { room = new.room; held = record { position = at; undo = undo } ∷ new.held } → points_from old p ≡ points_from new p
-from-dropped p at undo old new h e =
-    ap (λ v. points_from v p) e ∙ ap (λ held. record { room = new.room; held = held }) (from_on-first point_position p (record { position = at; undo = undo }) new.held h)
+from_dropped p at undo old new h e =
+    ap (λ v. points_from v p) e ∙ ap (λ held. record { room = new.room; held = held }) (from_on_first point_position p (record { position = at; undo = undo }) new.held h)
 
-pub from-none : {U : Type 0} (p : ℕ) (v : Points U) → from_on point_position p v.held ≡ v.held → points_from v p ≡ v
-from-none p v h = ap (λ held. record { room = v.room; held = held }) h
+pub from_none : {U : Type 0} (p : ℕ) (v : Points U) → from_on point_position p v.held ≡ v.held → points_from v p ≡ v
+from_none p v h = ap (λ held. record { room = v.room; held = held }) h
 
-pub rising-newest : {U : Type 0} (p : ℕ) (old new : List (UndoPoint U)) (r : Option (UndoPoint U)) → IsRising point_position old
+pub rising_newest : {U : Type 0} (p : ℕ) (old new : List (UndoPoint U)) (r : Option (UndoPoint U)) → IsRising point_position old
     → Newest point_position p old new r → IsRising point_position new
-rising-newest p old new None rising h = rw h.0 rising
-rising-newest p old new (Some z) rising h = h.2
+rising_newest p old new None rising h = rw h.0 rising
+rising_newest p old new (Some z) rising h = h.2
 
-pub rising-oldest : {U : Type 0} (p : ℕ) (old new : List (UndoPoint U)) (r : Option (UndoPoint U)) → IsRising point_position old
+pub rising_oldest : {U : Type 0} (p : ℕ) (old new : List (UndoPoint U)) (r : Option (UndoPoint U)) → IsRising point_position old
     → Oldest point_position p old new r → IsRising point_position new
-rising-oldest p old new None rising h = rw h.0 rising
-rising-oldest p old new (Some z) rising h = h.2
+rising_oldest p old new None rising h = rw h.0 rising
+rising_oldest p old new (Some z) rising h = h.2

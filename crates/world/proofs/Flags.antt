@@ -2,14 +2,14 @@
 use Rattle.std.proofs.Common.{◌≡◌, ℕ, zero, suc, ◌+◌, ◌<◌, ◌≤◌, Bool, true, false, not, cond, List, [], ◌∷◌, ◌++◌, length, Option, Some, None, refl, ap, ◌∙◌, arith}
 use Rattle.std.specs.List.{slice_get, position_from}
 use Rattle.std.proofs.lemmas.List.{length-append}
-use Rattle.fix_ante.proofs.Entries.{slice_get-append_left}
+use Rattle.fix_ante.proofs.Entries.{slice_get_append_left}
 use Rattle.world.specs.inside.Outboxes.{AreSettledBelow}
 
 -- with more flags
 pub still_below : (next : ℕ) (flags later more : List Bool) → later ≡ flags ++ more → next ≤ length flags → AreSettledBelow next flags
     → AreSettledBelow next later
 still_below next flags later more e within below number under =
-    ap (λ (xs : List Bool). slice_get xs number) e ∙ slice_get-append_left flags more number (omega (arith, under, within)) ∙ below number under
+    ap (λ (xs : List Bool). slice_get xs number) e ∙ slice_get_append_left flags more number (omega (arith, under, within)) ∙ below number under
 
 pub longer : (next : ℕ) (flags later more : List Bool) → later ≡ flags ++ more → next ≤ length flags → next ≤ length later
 longer next flags later more e within = omega (arith, ap length e, length-append flags more, within)

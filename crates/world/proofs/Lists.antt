@@ -6,7 +6,7 @@ use Rattle.std.proofs.lemmas.List.{append-nil, map-append, replicate_more}
 use Rattle.std.proofs.lemmas.List.FromFn.{map-range_with_len_more}
 use Rattle.std.proofs.lemmas.Option.{slice_get_read}
 use Rattle.std.proofs.lemmas.List.Concat.{flat_map-append}
-use Rattle.fix_ante.proofs.LocalLemmas.{range_with_len-append}
+use Rattle.fix_ante.proofs.LocalLemmas.{range_with_len_append}
 
 -- ---- two functions that differ at one place of a list
 
@@ -38,7 +38,7 @@ none_set f a (suc n) clear =
 pub flags_more : (f : ℕ → Bool) (a n m : ℕ) → ((k : ℕ) → a + n ≤ k → f k ≡ false)
     → map f (range_with_len a (n + m)) ≡ map f (range_with_len a n) ++ replicate m false
 flags_more f a n m clear =
-    ap (map f) (sym (range_with_len-append a n m)) ∙ map-append f (range_with_len a n) (range_with_len (a + n) m)
+    ap (map f) (sym (range_with_len_append a n m)) ∙ map-append f (range_with_len a n) (range_with_len (a + n) m)
     ∙ ap (λ bs. map f (range_with_len a n) ++ bs) (none_set f (a + n) m clear)
 
 -- the first number whose flag isn't set

@@ -24,7 +24,7 @@ use Rattle.runs.proofs.Restarts.{events_valid, sequencer_in_place, replica_in_pl
 use Rattle.node_rules.proofs.Within.{CommandHasNodes, GoesWithin, TakesWithin, StaysWithin, IsWithin}
 use Rattle.seq_node.proofs.Within.{HasEntries, sequencer_within}
 use Rattle.shard_node.proofs.Within.{HasShard, replica_within}
-use Rattle.client_node.proofs.Homes.{home-row}
+use Rattle.client_node.proofs.Homes.{home_row}
 use Rattle.client_node.proofs.Within.{HasHome, client_within}
 use Rattle.consumer_node.proofs.Within.{HasAny, consumer_within}
 
@@ -66,7 +66,7 @@ step_within c (nodes.Shard n side) past event valid here run taken takes =
 step_within c (nodes.Client n) past event valid here run taken takes =
     let node : NodeId = nodes.Client n in
     sends_within c (HasHome c) client_step (client.fresh_node c node) (client.restart_of c node) node past event (client_in_place c node) (events_valid c node past run)
-    (λ m e t is. client_within c m e valid t is) (record { cfg = refl; me = here; known = tt; own = home-row (λ home. home < c.shards) c.table c.homes n valid.some_shard valid.rows.have_nodes valid.homes }) taken takes
+    (λ m e t is. client_within c m e valid t is) (record { cfg = refl; me = here; known = tt; own = home_row (λ home. home < c.shards) c.table c.homes n valid.some_shard valid.rows.have_nodes valid.homes }) taken takes
 step_within c (nodes.Consumer n) past event valid here run taken takes =
     let node : NodeId = nodes.Consumer n in
     sends_within c HasAny (consumer_step any_meaning) (consumer.fresh_node any_meaning c node) (consumer.restart_of any_meaning c node) node past event (consumer_in_place c node valid here) (events_valid c node past run)

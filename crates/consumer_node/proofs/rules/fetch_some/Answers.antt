@@ -2,7 +2,7 @@ use Rattle.std.proofs.Common.{◌≡◌, ℕ, ◌∙◌, ap, ◌+◌, arith}
 use Rattle.std.specs.List.{fold, range_with_len}
 use Rattle.node_rules.specs.Turns.{turn_of}
 use Rattle.consumer_node.specs.Rules.{fetch_at}
-use Rattle.consumer_node.proofs.Loops.{fold-more}
+use Rattle.consumer_node.proofs.Loops.{fold_more}
 use Rattle.consumer_node.proofs.rules.fetch_some.Goals as goal
 
 pub loop-ahead-preserved : goal.loop-ahead-preserved
@@ -10,7 +10,7 @@ loop-ahead-preserved g c =
     let consumer = c.args.consumer.now in
     let applied = c.applied-applied.result in
     let n = c.loop-ahead.ahead in
-    c.in_ok-fetch_at.ensures ∙ (ap (λ t. fetch_at t (applied + n)) c.loop-ahead.invariant ∙ fold-more fetch_at (turn_of consumer c.args.out.now) applied n)
+    c.in_ok-fetch_at.ensures ∙ (ap (λ t. fetch_at t (applied + n)) c.loop-ahead.invariant ∙ fold_more fetch_at (turn_of consumer c.args.out.now) applied n)
 
 pub returns : goal.returns
 returns g c =

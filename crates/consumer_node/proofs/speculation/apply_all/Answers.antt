@@ -4,7 +4,7 @@ use Rattle.node_rules.specs.Turns.{Turn, turn_of}
 use Rattle.consumer_node.specs.States.{ConsumerState, applied_of}
 use Rattle.consumer_node.specs.Speculation.{apply_all}
 use Rattle.consumer_node.specs.Sound.{held_for, IsConsumer}
-use Rattle.consumer_node.proofs.Loops.{apply-next, apply-none}
+use Rattle.consumer_node.proofs.Loops.{apply_next, apply_none}
 use Rattle.consumer_node.proofs.Lives.{applied_sound, applied_room}
 use Rattle.consumer_node.proofs.speculation.apply_all.Goals as goal
 
@@ -27,7 +27,7 @@ loop-rec-preserved g c =
     let n = c.loop-rec.consumer in
     let held : held_for (agreed_by n.base) n.own (applied_of n.own) ≡ Some c.in-Some.rec = sym c.in_ok-rec.ensures ∙ c.in-Some.is in
     record {
-      rest = ap apply_all c.in_ok-apply.ensures ∙ (apply-next (turn_of n c.loop-rec.out) c.in-Some.rec held ∙ c.loop-rec.invariant.rest);
+      rest = ap apply_all c.in_ok-apply.ensures ∙ (apply_next (turn_of n c.loop-rec.out) c.in-Some.rec held ∙ c.loop-rec.invariant.rest);
       sound =
           subst (λ (t : Turn (ConsumerState g.row.A.Denot)). IsConsumer t.state) (sym c.in_ok-apply.ensures)
           (applied_sound n c.in-Some.rec held c.loop-rec.invariant.sound);
@@ -37,4 +37,4 @@ pub returns-clause-turn : goal.returns-clause-turn
 returns-clause-turn g c =
     let n = c.loop-rec.consumer in
     let none : held_for (agreed_by n.base) n.own (applied_of n.own) ≡ None = sym c.in_ok-rec.ensures ∙ c.in_default.is in
-    apply-none (turn_of n c.loop-rec.out) none ∙ c.loop-rec.invariant.rest
+    apply_none (turn_of n c.loop-rec.out) none ∙ c.loop-rec.invariant.rest

@@ -2,7 +2,7 @@ use Rattle.std.proofs.Common.{◌≡◌, Some, sym, ◌∙◌}
 use Rattle.cut_core.specs.Map.{located}
 use Rattle.node_rules.specs.Nodes.{agreed_by}
 use Rattle.consumer_node.specs.Apps.{meaning}
-use Rattle.consumer_node.proofs.Loops.{on-ok}
+use Rattle.consumer_node.proofs.Loops.{on_ok}
 use Rattle.consumer_node.proofs.Lives.{confirmed_sound, oldest_valid}
 use Rattle.consumer_node.proofs.speculation.confirm.Goals as goal
 
@@ -14,4 +14,4 @@ returns-clause-sound g c =
     let app = meaning g.A.App.fresh_state g.A.App.next_state g.A.App.output_of in
     let n = c.args.consumer.now in
     let here : located (agreed_by n.base) n.own.confirmed ≡ Some c.in-Some.owner = sym c.next_covered.ensures.owner ∙ c.in-Some.is in
-    on-ok c.show_confirmed.result _ (confirmed_sound app n c.in-Some-confirm.rec c.in-Some.owner c.confirm.new.self here c.in-Some-confirm.ensures.state c.requires.sound)
+    on_ok c.show_confirmed.result _ (confirmed_sound app n c.in-Some-confirm.rec c.in-Some.owner c.confirm.new.self here c.in-Some-confirm.ensures.state c.requires.sound)

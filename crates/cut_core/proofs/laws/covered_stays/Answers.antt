@@ -1,5 +1,5 @@
-use Rattle.cut_core.proofs.AgreeingLemmas.{located-applied_all}
+use Rattle.cut_core.proofs.AgreeingLemmas.{located_applied_all}
 use Rattle.cut_core.proofs.laws.covered_stays.Goals as goal
 
 pub returns : goal.returns
-returns c = λ first more position h. located-applied_all first more position h
+returns c = λ first more position h. located_applied_all first more position h

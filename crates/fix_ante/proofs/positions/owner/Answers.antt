@@ -3,8 +3,8 @@ use Rattle.std.specs.Option.{IsSome, IfSome}
 use Rattle.fix_ante.specs.declared.spots.Owner.{Owner}
 use Rattle.fix_ante.specs.Windows.{width_of, end_of}
 use Rattle.fix_ante.specs.Layout.{place_of, owner_of}
-use Rattle.fix_ante.proofs.PositionLemmas.{owner_of_past, end_of_round, owner_of_outside, owner_of_within, owner_of_some, place_of-owner_of}
-use Rattle.fix_ante.proofs.OwnerLemmas.{owner_of-limits}
+use Rattle.fix_ante.proofs.PositionLemmas.{owner_of_past, end_of_round, owner_of_outside, owner_of_within, owner_of_some, place_of_owner_of}
+use Rattle.fix_ante.proofs.OwnerLemmas.{owner_of_limits}
 use Rattle.fix_ante.proofs.positions.owner.Goals as goal
 
 pub returns-then-round-from-clause-owner : goal.returns-then-round-from-clause-owner
@@ -44,9 +44,9 @@ returns-clause-within c =
 pub returns-clause-place : goal.returns-clause-place
 returns-clause-place c =
     let w = c.args.window.now in
-    subst (λ o. IfSome o (λ (o : Owner). place_of w o.shard o.local ≡ Some c.args.position)) (found c).2 (place_of-owner_of w c.args.position c.base.ensures.valid)
+    subst (λ o. IfSome o (λ (o : Owner). place_of w o.shard o.local ≡ Some c.args.position)) (found c).2 (place_of_owner_of w c.args.position c.base.ensures.valid)
 
 pub returns-clause-limits : goal.returns-clause-limits
 returns-clause-limits c =
     let w = c.args.window.now in
-    subst (λ o. IfSome o (λ (o : Owner). (o.shard < 6) × (o.local ≤ c.args.position))) (found c).2 (owner_of-limits w c.args.position c.base.ensures.valid)
+    subst (λ o. IfSome o (λ (o : Owner). (o.shard < 6) × (o.local ≤ c.args.position))) (found c).2 (owner_of_limits w c.args.position c.base.ensures.valid)

@@ -1,7 +1,7 @@
 use Rattle.std.proofs.Common.{◌≡◌, take, ap, ◌∙◌, arith}
 use Rattle.std.proofs.lemmas.List.{take_all}
 use Rattle.fix_ante.specs.Windows.{spots_from, start_after}
-use Rattle.fix_ante.proofs.Successors.{IsWindow-next_of}
+use Rattle.fix_ante.proofs.Successors.{IsWindow_next_of}
 use Rattle.fix_ante.proofs.window.next.Goals as goal
 
 pub laid_out-requires : goal.laid_out-requires
@@ -12,4 +12,4 @@ laid_out-requires c =
     let all : take c.loop-row.row-index items ≡ items = take_all c.loop-row.row-index items (omega arith) in
     let spots : c.loop-row.spots.items ≡ spots_from (start_after w.spots w.rounds) rows = c.loop-row.invariant ∙ ap (spots_from (start_after w.spots w.rounds)) (all ∙ c.rows-row-items.ensures.rows) in
     rw (c.end.ensures, spots)
-    (IsWindow-next_of w c.args.number c.args.rounds rows c.rounds-covered.ensures.valid c.requires.end c.requires.some c.requires.most c.rows-row-items.ensures.valid)
+    (IsWindow_next_of w c.args.number c.args.rounds rows c.rounds-covered.ensures.valid c.requires.end c.requires.some c.requires.most c.rows-row-items.ensures.valid)

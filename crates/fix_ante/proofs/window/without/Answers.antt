@@ -1,7 +1,7 @@
 use Rattle.std.proofs.Common.{◌≡◌, arith}
 use Rattle.std.proofs.lemmas.Grind.{common_steps}
 use Rattle.fix_ante.specs.Windows.{spots_without}
-use Rattle.fix_ante.proofs.Successors.{IsWindow-without_of}
+use Rattle.fix_ante.proofs.Successors.{IsWindow_without_of}
 use Rattle.fix_ante.proofs.window.without.Goals as goal
 
 pub laid_out-requires : goal.laid_out-requires
@@ -9,4 +9,4 @@ laid_out-requires c =
     let w = c.args.window.now in
     let spots : c.loop-spot.spots.items ≡ spots_without w.spots c.args.covered c.args.shard = grind (arith, common_steps) in
     rw (c.end_after.ensures.end, c.rounds.ensures.rounds, spots)
-    (IsWindow-without_of w c.args.number c.args.covered c.args.shard c.end_after.ensures.valid c.requires.end c.requires.another c.requires.covered)
+    (IsWindow_without_of w c.args.number c.args.covered c.args.shard c.end_after.ensures.valid c.requires.end c.requires.another c.requires.covered)

@@ -2,7 +2,7 @@ use Rattle.std.proofs.Common.{◌≡◌, ◌≤◌, ◌+◌, ◌++◌, ◌∷◌
 use Rattle.gate_vault.specs.File.{gate_after, AreShort}
 use Rattle.gate_vault.specs.inside.Frames.{FrameRead}
 use Rattle.gate_vault.proofs.Again.{quiet_then}
-use Rattle.gate_vault.proofs.FrameBytes.{areshort-append, gate_after-append}
+use Rattle.gate_vault.proofs.FrameBytes.{areshort_append, gate_after_append}
 use Rattle.gate_vault.proofs.FrameReads.{next_read}
 use Rattle.gate_vault.proofs.ReadLemmas.{sound_then}
 use Rattle.gate_vault.proofs.load.read_entries.Goals as goal
@@ -19,8 +19,8 @@ loop-gate-preserved g c =
     let place : gate_after c.push.new.self ≡ gate_after (entries ++ entry ∷ []) = ap gate_after grown in
     record {
       room = omega arith;
-      place = omega (arith, before.place, gate_after-append entries entry);
-      short = subst AreShort (sym grown) (areshort-append entries entry before.short few);
+      place = omega (arith, before.place, gate_after_append entries entry);
+      short = subst AreShort (sym grown) (areshort_append entries entry before.short few);
       read = λ file told begins.
           let frame = subst (λ (o : Option (List ℕ)). FrameRead gate file (Ok o)) c.in-Some.is (c.in_ok-entry.ensures.frame file (before.seen ∙ told)) in
           next_read entries entry file gate (gate + (3 + c.len.result)) (before.read file told begins) frame.1 (omega arith) c.push.new.self grown;

@@ -3,7 +3,7 @@ use Rattle.std.proofs.lemmas.List.{take_all}
 use Rattle.std.proofs.lemmas.List.{drop_all}
 use Rattle.std.proofs.lemmas.Bool.Decides.{nat_tests}
 use Rattle.quota_table.specs.Tables.{rows_fault}
-use Rattle.quota_table.proofs.TableLemmas.{IsTable-from_fault}
+use Rattle.quota_table.proofs.TableLemmas.{IsTable_from_fault}
 use Rattle.quota_table.proofs.table.check.Goals as goal
 
 pub of-requires : goal.of-requires
@@ -14,4 +14,4 @@ of-requires c =
     let done : take c.loop-i.i rows ≡ rows = take_all c.loop-i.i rows (omega arith) in
     let over : drop c.loop-i.i rows ≡ [] = drop_all c.loop-i.i rows (omega arith) in
     let faultless : rows_fault [] rows ≡ None = c.loop-i.invariant.1 ∙ ap (rows_fault (take c.loop-i.i rows)) over in
-    rw (c.loop-i.invariant.0, done) (IsTable-from_fault rows some few faultless)
+    rw (c.loop-i.invariant.0, done) (IsTable_from_fault rows some few faultless)

@@ -4,7 +4,7 @@ use Rattle.std.proofs.lemmas.List.{length-take-le, length-drop}
 use Rattle.std.specs.List.{concat}
 use Rattle.record_pool.specs.Chains.{chain, contents}
 use Rattle.record_pool.specs.inside.Kept.{Below}
-use Rattle.record_pool.proofs.ChainLemmas.{chain-more, read-more}
+use Rattle.record_pool.proofs.ChainLemmas.{chain_more, read_more}
 use Rattle.record_pool.proofs.chains.copy_out.Goals as goal
 
 pub loop-i-preserved : goal.loop-i-preserved
@@ -30,8 +30,8 @@ loop-i-preserved c =
       copied = ap (λ bs. bs ++ take (room - (done + n)) (concat (contents blocks (chain next (get_or next at 0) (count - (i + 1))))))
           (take-put_mid done _ c.loop-i.into c.copy_front.new.into (done + n) (omega (arith, len)) (omega (arith, c.loop-i.invariant.done, same))
           ∙ ap (λ bs. take done c.loop-i.into ++ bs) read)
-          ∙ read-more blocks next at i count done n room (take done c.loop-i.into) more long is ∙ c.loop-i.invariant.copied;
-      below = (subst (Below (length next)) (chain-more next at i count more) c.loop-i.invariant.below).1;
+          ∙ read_more blocks next at i count done n room (take done c.loop-i.into) more long is ∙ c.loop-i.invariant.copied;
+      below = (subst (Below (length next)) (chain_more next at i count more) c.loop-i.invariant.below).1;
       done = omega (arith, is, c.loop-i.invariant.done);
       room = omega (arith, is, more, c.loop-i.invariant.room, c.loop-i.invariant.done);
     }

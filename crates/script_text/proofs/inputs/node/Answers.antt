@@ -1,16 +1,16 @@
 use Rattle.std.proofs.Common.{◌≡◌, sym, subst}
 use Rattle.msg_wire.specs.Valid.{IsNodeOf}
-use Rattle.script_text.proofs.NodeLemmas.{node-found, node-missed}
+use Rattle.script_text.proofs.NodeLemmas.{node_found, node_missed}
 use Rattle.script_text.proofs.inputs.node.Goals as goal
 
 pub returns-in-Some : goal.returns-in-Some
 returns-in-Some c =
-    sym (node-found c.args.cfg.now c.args.word.now c.in-Some.node c.in-Some.ensures.found.1 (c.is_node_of.ensures.node.0 c.if-is_node_of.true))
+    sym (node_found c.args.cfg.now c.args.word.now c.in-Some.node c.in-Some.ensures.found.1 (c.is_node_of.ensures.node.0 c.if-is_node_of.true))
 
 pub returns-in_default : goal.returns-in_default
 returns-in_default c =
-    sym (node-missed c.args.cfg.now c.args.word.now _ c.requires c.in-Some.ensures.only
+    sym (node_missed c.args.cfg.now c.args.word.now _ c.requires c.in-Some.ensures.only
     (λ n e h. let same : n ≡ c.in-Some.node = cc in let yes = c.is_node_of.ensures.node.1 (subst (IsNodeOf c.args.cfg.now) same h) in cc))
 
 pub returns-in_default-2 : goal.returns-in_default-2
-returns-in_default-2 c = sym (node-missed c.args.cfg.now c.args.word.now _ c.requires c.in_default.ensures.only (λ n e h. cc))
+returns-in_default-2 c = sym (node_missed c.args.cfg.now c.args.word.now _ c.requires c.in_default.ensures.only (λ n e h. cc))

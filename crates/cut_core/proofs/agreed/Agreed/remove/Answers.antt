@@ -5,27 +5,27 @@ use Rattle.fix_ante.specs.Moves.{first_failed_of}
 use Rattle.cut_core.specs.Agreements.{Agreement, count_of}
 use Rattle.cut_core.specs.Soundness.{IsSound, HasFinalEnds}
 use Rattle.cut_core.specs.inside.Kept.{agreement_of, followed}
-use Rattle.cut_core.proofs.Reach.{end-reach}
-use Rattle.cut_core.proofs.Ends.{room, row-within}
-use Rattle.cut_core.proofs.Entries.{removes_from, place_of-end}
+use Rattle.cut_core.proofs.Reach.{end_reach}
+use Rattle.cut_core.proofs.Ends.{room, row_within}
+use Rattle.cut_core.proofs.Entries.{removes_from, place_of_end}
 use Rattle.cut_core.proofs.agreed.Agreed.remove.Goals as goal
 
 pub bounds-ends-from : goal.bounds-ends-from
 bounds-ends-from c =
     let row = ap (λ (b : Agreement). has_row c.args.shard b.current.spots) c.self.view_is ∙ c.requires.row in
-    let below = row-within c.self.inside.current.spots c.args.shard c.self.invariant.sound.window.table.within row in
+    let below = row_within c.self.inside.current.spots c.args.shard c.self.invariant.sound.window.table.within row in
     omega (arith, c.from.ensures)
 
 pub unreachable-requires : goal.unreachable-requires
 unreachable-requires c =
     let a = c.args.self.now in
     let end = ap (λ n. slice_index c.ends_after-ends.result n) c.from.ensures in
-    let placed = place_of-end c.self.inside a c.args.shard _ c.ends_after-ends.result c.deref.result.now c.self.view_is c.self.invariant c.requires.row c.deref.ensures.0 c.ends_after-ends.ensures end in
+    let placed = place_of_end c.self.inside a c.args.shard _ c.ends_after-ends.result c.deref.result.now c.self.view_is c.self.invariant c.requires.row c.deref.ensures.0 c.ends_after-ends.ensures end in
     let no : Some (first_failed_of a.current a.rounds c.args.shard) ≡ None = sym placed ∙ (sym c.place.ensures.place ∙ c.in_default.is) in
     cc
 
 pub without-next-requires-clause-end : goal.without-next-requires-clause-end
-without-next-requires-clause-end c = end-reach (agreement_of c.self.inside) c.self.invariant.sound c.self.invariant.few
+without-next-requires-clause-end c = end_reach (agreement_of c.self.inside) c.self.invariant.sound c.self.invariant.few
 
 pub with_gone-gone-requires : goal.with_gone-gone-requires
 with_gone-gone-requires c =
@@ -54,7 +54,7 @@ pub returns-clause-effect : goal.returns-clause-effect
 returns-clause-effect c =
     let a = c.args.self.now in
     let end = ap (λ n. slice_index c.ends_after-ends.result n) c.from.ensures in
-    let placed = place_of-end c.self.inside a c.args.shard _ c.ends_after-ends.result c.deref.result.now c.self.view_is c.self.invariant c.requires.row c.deref.ensures.0 c.ends_after-ends.ensures end in
+    let placed = place_of_end c.self.inside a c.args.shard _ c.ends_after-ends.result c.deref.result.now c.self.view_is c.self.invariant c.requires.row c.deref.ensures.0 c.ends_after-ends.ensures end in
     let first : Some c.in-Some.first ≡ Some (first_failed_of a.current a.rounds c.args.shard) = sym c.in-Some.is ∙ (c.place.ensures.place ∙ placed) in
     let same : c.in-Some.first ≡ first_failed_of a.current a.rounds c.args.shard = cc in
     ap (Removed c.args.shard) same

@@ -2,7 +2,7 @@ use Rattle.std.proofs.Common.{◌≡◌, ◌∙◌, ◌++◌, ◌∷◌, [], ari
 use Rattle.gate_vault.specs.File.{payload}
 use Rattle.gate_vault.specs.Put.{TellsBeforeOrAfter}
 use Rattle.gate_vault.proofs.Again.{on_err_always}
-use Rattle.gate_vault.proofs.FrameBytes.{closed_stands, areshort-append, gate_after-append}
+use Rattle.gate_vault.proofs.FrameBytes.{closed_stands, areshort_append, gate_after_append}
 use Rattle.gate_vault.proofs.vault.Vault.append.Goals as goal
 
 pub returns-in_err-write_frame-clause-any_moment : goal.returns-in_err-write_frame-clause-any_moment
@@ -26,8 +26,8 @@ returns-clause-acknowledged g c = λ entries keeps.
       told = kept.told;
       stands = closed_stands kept.file (entries ++ c.args.entry.now ∷ []) kept.stands;
       only = kept.only;
-      short = areshort-append entries c.args.entry.now keeps.short (omega arith);
-      gate = omega (arith, gate_after-append entries c.args.entry.now, keeps.gate, c.in_ok-next.ensures);
+      short = areshort_append entries c.args.entry.now keeps.short (omega arith);
+      gate = omega (arith, gate_after_append entries c.args.entry.now, keeps.gate, c.in_ok-next.ensures);
     }
 
 pub returns-clause-any_moment : goal.returns-clause-any_moment

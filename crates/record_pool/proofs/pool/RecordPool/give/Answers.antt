@@ -2,7 +2,7 @@ use Rattle.std.proofs.Common.{◌≡◌, ◌∙◌, ◌≤◌, ◌<◌, ◌+◌,
 use Rattle.record_pool.specs.Chains.{chain, walk}
 use Rattle.record_pool.specs.Pools.{PoolState}
 use Rattle.record_pool.specs.inside.Kept.{Below, IsWhole, chains_from}
-use Rattle.record_pool.proofs.PoolLemmas.{owned, owned_by, front-below, last-below, count-most, whole-given, pool-given, kept-others}
+use Rattle.record_pool.proofs.PoolLemmas.{owned, owned_by, front_below, last_below, count_most, whole_given, pool_given, kept_others}
 use Rattle.record_pool.proofs.pool.RecordPool.give.Goals as goal
 
 pub index-count-requires : goal.index-count-requires
@@ -30,7 +30,7 @@ after-last-requires c =
     c.first-first.ensures in
     let by = owned_by i.counts.items first c.args.item.len k own c.index-count.ensures in
     let inner : Below (length next) (chain next first (k - 1)) =
-    subst (λ t. Below t (chain next first (k - 1))) (sym c.self.invariant.links) (front-below next i.counts.items i.head i.free
+    subst (λ t. Below t (chain next first (k - 1))) (sym c.self.invariant.links) (front_below next i.counts.items i.head i.free
     (length i.blocks.items) first (k - 1) c.self.invariant by.has) in
     subst (λ ns. Below (length ns) (chain ns first (k - 1))) (sym c.deref.ensures.value) inner
 
@@ -47,7 +47,7 @@ index_mut-requires c =
     omega (
       arith,
       last,
-      last-below next i.counts.items i.head i.free (length i.blocks.items) first
+      last_below next i.counts.items i.head i.free (length i.blocks.items) first
           (k - 1) c.self.invariant by.has,
       c.self.invariant.links,
       i.next.ok.0,
@@ -68,7 +68,7 @@ overflow_add-self c =
     let own = owned i.blocks.items i.next.items i.counts.items i.head i.free first c.args.self.now c.args.item c.self.invariant c.self.view_is c.requires
     c.first-first.ensures in
     let by = owned_by i.counts.items first c.args.item.len k own c.index-count.ensures in
-    let most = count-most i.next.items i.counts.items i.head i.free (length i.blocks.items) first c.self.invariant own.inside in
+    let most = count_most i.next.items i.counts.items i.head i.free (length i.blocks.items) first c.self.invariant own.inside in
     omega (arith, by.is, most, c.self.invariant.small)
 
 pub invariant_of-self : goal.invariant_of-self
@@ -84,7 +84,7 @@ invariant_of-self c =
     let frees : i.free + k ≡ i.free + suc (k - 1) = omega (arith, by.is, own.some) in
     subst (λ n. IsWhole (set next n i.head) (set i.counts.items first 0) first (i.free + k) (length i.blocks.items)) (sym last)
     (subst (λ f. IsWhole (set next (walk next first (k - 1)) i.head) (set i.counts.items first 0) first f (length i.blocks.items)) (sym frees)
-    (whole-given next i.counts.items i.head i.free (length i.blocks.items) first (k - 1) c.self.invariant by.has own.inside))
+    (whole_given next i.counts.items i.head i.free (length i.blocks.items) first (k - 1) c.self.invariant by.has own.inside))
 
 given : goal.returns-clause-pool
 given c =
@@ -99,11 +99,11 @@ given c =
     let frees : i.free + k ≡ i.free + suc (k - 1) = omega (arith, by.is, own.some) in
     let made : ℕ → ℕ → PoolState = λ n f. record { free = f; chains = chains_from i.blocks.items (set next n i.head) 0 (set i.counts.items first 0) } in
     ap (λ n. made n (i.free + k)) last ∙ ap (made (walk next first (k - 1))) frees
-    ∙ pool-given i.blocks.items next i.counts.items i.head i.free first
+    ∙ pool_given i.blocks.items next i.counts.items i.head i.free first
     (k - 1) c.args.self.now c.args.item c.self.invariant c.self.view_is c.first-first.ensures by.has own.count own.inside
 
 pub returns-clause-pool : goal.returns-clause-pool
 returns-clause-pool c = given c
 
 pub returns-clause-kept : goal.returns-clause-kept
-returns-clause-kept c = kept-others c.args.self.now _ c.args.item.first _ [] (given c)
+returns-clause-kept c = kept_others c.args.self.now _ c.args.item.first _ [] (given c)

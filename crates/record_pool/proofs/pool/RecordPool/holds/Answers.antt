@@ -2,7 +2,7 @@ use Rattle.std.proofs.Common.{◌≡◌, ◌∙◌, ◌≤◌, ◌<◌, length, 
 use Rattle.std.proofs.lemmas.Bool.{eqb-true, eq-eqb}
 use Rattle.std.proofs.lemmas.Grind.{get_or_default_zero}
 use Rattle.record_pool.specs.Pools.{blocks_for}
-use Rattle.record_pool.proofs.PoolLemmas.{count-of, belongs-by, not-past}
+use Rattle.record_pool.proofs.PoolLemmas.{count_of, belongs_by, not_past}
 use Rattle.record_pool.proofs.pool.RecordPool.holds.Goals as goal
 
 pub returns-then-first-len : goal.returns-then-first-len
@@ -11,7 +11,7 @@ returns-then-first-len c =
     let counts = i.counts.items in
     let past : length counts ≤ c.args.item.now.first = omega (arith, c.if-first-len.true, c.len.ensures, i.counts.ok.0, c.first-first.ensures) in (
       (λ e. absurd (true≢false (sym e))),
-      (λ belongs. absurd (not-past i.blocks.items i.next.items counts i.free c.args.self.now c.args.item.now c.self.view_is past belongs)),
+      (λ belongs. absurd (not_past i.blocks.items i.next.items counts i.free c.args.self.now c.args.item.now c.self.view_is past belongs)),
     )
 
 pub returns : goal.returns
@@ -24,7 +24,7 @@ returns c =
     let has : c.from.result ≡ get_or counts item.first 0 =
     c.from.ensures ∙ c.index.ensures ∙ get_or_default_zero counts first c.index.result.now inside ∙ ap (λ n. get_or counts n 0) c.first-first.ensures in
     let need : c.needed.result ≡ blocks_for item.len = c.needed.ensures ∙ ap blocks_for c.len-2.ensures in (
-      (λ e. belongs-by i.blocks.items i.next.items counts i.free c.args.self.now item c.self.view_is (sym has ∙ eqb-true c.from.result c.needed.result e ∙ need)),
+      (λ e. belongs_by i.blocks.items i.next.items counts i.free c.args.self.now item c.self.view_is (sym has ∙ eqb-true c.from.result c.needed.result e ∙ need)),
       (λ belongs. eq-eqb c.from.result c.needed.result
-          (has ∙ count-of i.blocks.items i.next.items counts i.free c.args.self.now item c.self.view_is belongs ∙ sym need)),
+          (has ∙ count_of i.blocks.items i.next.items counts i.free c.args.self.now item c.self.view_is belongs ∙ sym need)),
     )

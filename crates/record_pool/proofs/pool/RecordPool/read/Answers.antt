@@ -4,7 +4,7 @@ use Rattle.std.proofs.lemmas.List.{length-take-le}
 use Rattle.record_pool.specs.Chains.{chain, contents}
 use Rattle.record_pool.specs.Pools.{bytes_of}
 use Rattle.record_pool.specs.inside.Kept.{Below}
-use Rattle.record_pool.proofs.PoolLemmas.{owned, owned_by, blocks-hold, bytes-read}
+use Rattle.record_pool.proofs.PoolLemmas.{owned, owned_by, blocks_hold, bytes_read}
 use Rattle.record_pool.proofs.pool.RecordPool.read.Goals as goal
 
 pub index-count-requires : goal.index-count-requires
@@ -39,7 +39,7 @@ copy_out-requires-clause-room c =
     let by = owned_by i.counts.items first item.len c.index-count.result.now own c.index-count.ensures in
     let front : length (take c.len.result c.args.into.now) ≡ item.len =
     length-take-le c.len.result c.args.into.now (omega (arith, c.len.ensures, c.requires.room)) ∙ c.len.ensures in
-    omega (arith, front, by.is, own.count, blocks-hold item.len)
+    omega (arith, front, by.is, own.count, blocks_hold item.len)
 
 pub returns : goal.returns
 returns c =
@@ -57,7 +57,7 @@ returns c =
     c.copy_out.ensures.bytes ∙ ap (λ n. take n (concat (contents c.deref.result.now (chain c.deref-2.result.now first k)))) front
     ∙ ap (λ bs. take item.len (concat (contents bs (chain c.deref-2.result.now first k)))) c.deref.ensures.value
     ∙ ap (λ ns. take item.len (concat (contents i.blocks.items (chain ns first k)))) c.deref-2.ensures.value
-    ∙ bytes-read i.blocks.items next i.counts.items i.free first k c.args.self.now item c.self.view_is c.first-first.ensures by.is in
+    ∙ bytes_read i.blocks.items next i.counts.items i.free first k c.args.self.now item c.self.view_is c.first-first.ensures by.is in
     record {
       count = c.len-2.ensures;
       bytes = ap (λ bs. bs ++ drop c.len.result c.args.into.now) read ∙ ap (λ n. bytes_of c.args.self.now item ++ drop n c.args.into.now) c.len.ensures;

@@ -2,7 +2,7 @@ use Rattle.std.proofs.Common.{◌≡◌, ◌+◌, ◌≤◌, [], ◌∷◌, ◌+
 use Rattle.std.specs.BTreeMap.{insert_entry}
 use Rattle.std.specs.Ordering.{nat_cmp}
 use Rattle.report_text.specs.inside.Numbers.{numbered, AreFrom}
-use Rattle.report_text.proofs.Keyed.{all-insert}
+use Rattle.report_text.proofs.Keyed.{all_insert}
 use Rattle.report_text.proofs.Numbers.{put_first, put_rest, one_more, no_entries}
 use Rattle.report_text.proofs.by_number.ByNumber.put.Goals as goal
 
@@ -35,7 +35,7 @@ pub invariant_of-self-2 : goal.invariant_of-self-2
 invariant_of-self-2 g c =
     let i = c.self.inside in
     let past : length i.first.items ≤ c.args.number = omega (arith, c.if-at-len.false, c.len.ensures) in
-    subst (AreFrom (length i.first.items)) (sym c.in_ok-insert.ensures.entries) (all-insert (λ e. length i.first.items ≤ e.0) i.rest.entries c.args.number c.args.value past c.self.invariant)
+    subst (AreFrom (length i.first.items)) (sym c.in_ok-insert.ensures.entries) (all_insert (λ e. length i.first.items ≤ e.0) i.rest.entries c.args.number c.args.value past c.self.invariant)
 
 pub returns : goal.returns
 returns g c =

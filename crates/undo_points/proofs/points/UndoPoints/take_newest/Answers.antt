@@ -1,7 +1,7 @@
 use Rattle.std.proofs.Common.{rules, ◌≡◌, nat_le, inl, inr}
-use Rattle.app_law.proofs.EndLemmas.{Newest, newest-empty, newest-last}
+use Rattle.app_law.proofs.EndLemmas.{Newest, newest_empty, newest_last}
 use Rattle.undo_points.specs.Points.{point_position}
-use Rattle.undo_points.proofs.PointLemmas.{takes_none, takes_some, rising-newest}
+use Rattle.undo_points.proofs.PointLemmas.{takes_none, takes_some, rising_newest}
 use Rattle.undo_points.proofs.points.UndoPoints.take_newest.Goals.{in-Some, in-None}
 use Rattle.undo_points.proofs.points.UndoPoints.take_newest.Goals as goal
 
@@ -9,11 +9,11 @@ newest : (g : _) (c : goal.Joined-pop_back_if g)
     → Newest point_position c.args.position c.self.inside.held.items c.pop_back_if.new.self.items c.pop_back_if.result
 newest g c =
     elim c.pop_back_if.ensures.cases [
-      | inl h ↦ newest-empty point_position _ _ _ _ h.0 h.1 h.2
+      | inl h ↦ newest_empty point_position _ _ _ _ h.0 h.1 h.2
       | inr h ↦
           let called = h.5 in
           let told : (h.2 ≡ nat_le c.args.position h.1.position) × (h.3 ≡ h.1) = search rules in
-          newest-last point_position _ _ _ h.0 h.1 h.3 h.2 _ c.self.invariant h.4 told.0 told.1 h.6 h.7
+          newest_last point_position _ _ _ h.0 h.1 h.3 h.2 _ c.self.invariant h.4 told.0 told.1 h.6 h.7
     ]
 
 pub returns : goal.returns
@@ -25,4 +25,4 @@ returns g c =
     ]
 
 pub invariant_of-self : goal.invariant_of-self
-invariant_of-self g c = rising-newest _ _ _ _ c.self.invariant (newest g c)
+invariant_of-self g c = rising_newest _ _ _ _ c.self.invariant (newest g c)

@@ -2,7 +2,7 @@ use Rattle.std.proofs.Common.{◌≡◌, ℕ, ◌+◌, ◌%◌, ◌<◌, length,
 use Rattle.msg_wire.specs.Nodes.{nodes_of}
 use Rattle.runs.specs.Names.events
 use Rattle.world.specs.inside.PlayerSteps.{PlayerState, CanTake}
-use Rattle.node_order.proofs.NodePlaces.{place-only}
+use Rattle.node_order.proofs.NodePlaces.{place_only}
 use Rattle.world.proofs.Turns.{has_turn, ticked}
 use Rattle.world.proofs.player.Player.tick_next.Goals as goal
 
@@ -17,7 +17,7 @@ pub happen_here-requires : goal.happen_here-requires
 happen_here-requires c =
     let has = has_turn c.args.self c.deref-parts.result.now _ c.deref-parts.ensures c.self.invariant c.self.view_is in
     let node = c.index-node.result.now in
-    let within = (place-only c.args.self.cfg c.args.self.turn node (has.there node c.index-node.ensures)).1 in
+    let within = (place_only c.args.self.cfg c.args.self.turn node (has.there node c.index-node.ensures)).1 in
     subst (λ (s : PlayerState). CanTake s.cfg s.past node events.Tick) (sym c.turn_to.ensures) (record { within = within; valid = tt; taken_there = tt; comes = tt; command = tt })
 
 pub returns : goal.returns
