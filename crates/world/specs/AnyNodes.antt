@@ -1,5 +1,7 @@
 -- Nodes of any kind, by the tables of the four kinds.
-use Rattle.std.specs.Prelude.{Bool, false, List}
+use Rattle.std.specs.Prelude.{Bool, false, List, Option, None, Some}
+use Rattle.app_law.specs.AnyApps.{any_shown}
+use Rattle.net_model.specs.declared.viewed.View.{View}
 use Rattle.net_model.specs.Pasts.{Past}
 use Rattle.node_rules.specs.Nodes.{Node, Core}
 use Rattle.node_rules.specs.Turns.{step_of}
@@ -7,6 +9,7 @@ use Rattle.seq_node.specs.Steps.{sequencer_step}
 use Rattle.shard_node.specs.Steps.{replica_step}
 use Rattle.client_node.specs.Steps.{client_step}
 use Rattle.consumer_node.specs.Apps.{any_meaning}
+use Rattle.consumer_node.specs.States.{applied_of, app_state}
 use Rattle.consumer_node.specs.Steps.{consumer_step}
 use Rattle.world.specs.declared.any_node.AnyNode.{AnyNode}
 use Rattle.world.specs.declared.any_node.AnyNode.TheVariants as any
@@ -51,6 +54,17 @@ is_spent_any (any.Seq core) = core.spent
 is_spent_any (any.Shard core) = core.spent
 is_spent_any (any.Client core) = core.spent
 is_spent_any (any.Consumer core) = core.spent
+
+-- what a consumer shows
+abbrev pub shows_any : AnyNode → Option View
+shows_any (any.Seq core) = None
+shows_any (any.Shard core) = None
+shows_any (any.Client core) = None
+shows_any (any.Consumer core) = Some (record {
+  applied = applied_of core.node.own;
+  confirmed = core.node.own.confirmed;
+  shown = any_shown (app_state any_meaning core.node.own);
+})
 
 -- what the entries of a past leave of a node
 abbrev pub node_after : Config → Past → NodeId → AnyNode

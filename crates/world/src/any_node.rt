@@ -4,9 +4,9 @@ ghost use Rattle.msg_wire.specs.Steps.{IsValidStep};
 
 use app_law::AnyApp;
 use client_node::ClientNode;
-use consumer_node::ConsumerNode;
+use consumer_node::{ConsumerNode, ReadConsumer};
 use msg_wire::{Config, Event, Items, Message, Step};
-use net_model::NodeModel;
+use net_model::{NodeModel, View, Viewed};
 use quota_table::OutOfMemory;
 use seq_node::SeqNode;
 use shard_node::ShardNode;
@@ -94,6 +94,23 @@ impl NodeModel for AnyNode {
             AnyNode::Shard(node) => node.deliver_into(alloc, message, out),
             AnyNode::Client(node) => node.deliver_into(alloc, message, out),
             AnyNode::Consumer(node) => node.deliver_into(alloc, message, out),
+        }
+    }
+}
+
+impl Viewed for AnyNode {
+    ghost use Rattle.world.specs.AnyNodes.{shows_any};
+
+    ghost shows = { shows_any };
+
+    fn view(&self) -> Option<View> {
+        match self {
+            AnyNode::Consumer(node) => Some(View {
+                applied: node.applied(),
+                confirmed: node.confirmed(),
+                shown: node.show(),
+            }),
+            _ => None,
         }
     }
 }
