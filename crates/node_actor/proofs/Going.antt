@@ -2,7 +2,8 @@
 use Rattle.std.proofs.Common.{◌≡◌, ◌≢◌, ◌⊎◌, inl, inr, ℕ, zero, suc, ◌<◌, List, [], ◌∷◌, ◌++◌, length, get_or, set, Bool, true, false, Option, None, Some}
 use Rattle.std.proofs.Common.{refl, sym, ap, ◌∙◌, subst, arith, append-nil}
 use Rattle.std.specs.List.{Contains}
-use Rattle.std.proofs.lemmas.List.{get_or-set_same, get_or-set_other, length-set, get_or_default}
+use Rattle.std.specs.Vec.{with_items}
+use Rattle.std.proofs.lemmas.List.{get_or-set_same, get_or-set_other, length-set, get_or_default, with_items_is}
 use Rattle.std.proofs.lemmas.List.Elements.{Contains-append_left, Contains-append_right}
 use Rattle.node_links.specs.declared.frame.Frame.{Frame}
 use Rattle.node_links.specs.Links.{LinkName, Receiving, Sending}
@@ -15,7 +16,7 @@ use Rattle.net_model.specs.Names.events
 use Rattle.node_order.specs.Places.{rank_of}
 use Rattle.node_actor.specs.declared.node_core.NodeCore.{NodeCore}
 use Rattle.node_actor.specs.declared.actor.NodeActor.{NodeActor}
-use Rattle.node_actor.specs.Actors.{KeepsItems, WentOn, Moved}
+use Rattle.node_actor.specs.Actors.{CanGoOn, KeepsItems, WentOn, Moved}
 use Rattle.node_actor.specs.inside.Reacting.{IsPulled, Reacted, is_input}
 use Rattle.node_actor.specs.Cores.{steps_of, past_at, IsReady, IsReadFrom, Turned, Received, KeepsDisk, IsFaulty}
 use Rattle.node_actor.specs.Chunks.{chunks_of}
@@ -245,6 +246,23 @@ module _ {N D : Type 0} (rules : NodeRules N) (disk : DiskRules D) where
     keeps = items_kept rules disk actor.core after.core (subst (λ (c : NodeCore N D). KeepsDisk disk c after.core) core reacted.keeps);
     faulty = λ was fails. subst (λ (c : NodeCore N D). IsFaulty disk c after.core) core (reacted.faulty fails);
   }
+
+  -- ---- the links to it were lent, and a frame was pulled of one or of none
+
+  pub none_pulled : (actor : NodeActor N D) (lent ins : List Receiving) → actor.stopped ≡ None → CanGoOn rules actor → lent ≡ actor.ins.items
+      → ins ≡ lent → Moved rules disk actor (record actor { ins = with_items actor.ins ins })
+  none_pulled actor lent ins calm going lent_is none =
+      let same = none ∙ lent_is in
+      none_moved actor _ calm calm (going calm) refl refl (with_items_is actor.ins ins (ap length same ∙ sym actor.ins.ok.0) ∙ same)
+
+  pub pulled_moved : (taken : Taken) (actor after : NodeActor N D) (next : ℕ) (lent ins : List Receiving) (from : ℕ) (frame : Frame)
+      → actor.stopped ≡ None → CanGoOn rules actor → lent ≡ actor.ins.items → IsPulled lent ins from frame
+      → Reacted rules disk from frame taken (record actor { ins = with_items actor.ins ins; next = next }) after → Moved rules disk actor after
+  pulled_moved taken actor after next lent ins from frame calm going lent_is pulled reacted =
+      let len = ap length pulled.set ∙ length-set lent from pulled.new ∙ ap length lent_is ∙ sym actor.ins.ok.0 in
+      frame_moved taken actor _ after from frame calm (going calm) refl refl
+      (subst (λ l. IsPulled actor.ins.items l from frame) (sym (with_items_is actor.ins ins len)) (subst (λ l. IsPulled l ins from frame) lent_is pulled))
+      reacted
 
   -- ---- the steps of a turn
 

@@ -1,19 +1,20 @@
-ghost use Rattle.std.specs.Prelude.{◌≡◌, ◌<◌, ◌≤◌, None, IsTrue, IsFalse, IsSome, length, get_or};
+ghost use Rattle.std.specs.Prelude.{◌≡◌, ◌<◌, ◌≤◌, None, IsTrue, IsFalse, IsSome, OnOk, length, get_or};
 ghost use Rattle.msg_wire.specs.Nodes.{is_client, is_sequencer};
 ghost use Rattle.msg_wire.specs.Valid.{IsValidCommand};
 ghost use Rattle.net_model.specs.Names.events;
 ghost use Rattle.node_links.specs.Links.{Receiving};
-ghost use Rattle.node_actor.specs.Cores.{IsReady};
+ghost use Rattle.node_actor.specs.Cores.{IsReady, StepsSafely, TookOne, stable_of};
 ghost use Rattle.node_actor.specs.Actors.{CanGoOn, EndedFaults, Moved};
 ghost use Rattle.node_actor.specs.Turns.{AreStepsOf, AreTurns, IsStepOf, IsTurn, TookSteps, is_tick_due};
 ghost use Rattle.node_actor.specs.declared.taken.Taken.TheVariants.{Input};
+ghost use Rattle.node_actor.specs.inside.Alone.{ComesAlone};
 ghost use Rattle.node_actor.specs.inside.Reacting.{Reacted};
 
 use crate::links::{pull_at, pull_first, push_all};
 use crate::node_core::NodeCore;
 use crate::stopped::Stopped;
 use crate::taken::Taken;
-use msg_wire::Command;
+use msg_wire::{Command, Event};
 use net_model::{Journal, NodeModel};
 use node_links::{Frame, LinkIn, LinkOut};
 use record_codec::Body;
@@ -131,19 +132,7 @@ impl<N: NodeModel + Drop, D: Disk + Drop> NodeActor<N, D> {
         ensures taken { IsTrue result → self.new.stopped ≡ None }
         ensures stopped { IsFalse result → IsSome self.new.stopped }
     {
-        if self.stopped.is_some() {
-            return false;
-        }
-        match self.core.tick(&mut self.outs) {
-            Ok(()) => {
-                push_all(&mut self.outs);
-                true
-            }
-            Err(stopped) => {
-                self.stopped = Some(stopped);
-                false
-            }
-        }
+        self.step(Event::Tick)
     }
 
     /// A step of a body that a submitter, 0 to 7, has for this client, as `tick` is one.
@@ -156,19 +145,7 @@ impl<N: NodeModel + Drop, D: Disk + Drop> NodeActor<N, D> {
         ensures taken { IsTrue result → self.new.stopped ≡ None }
         ensures stopped { IsFalse result → IsSome self.new.stopped }
     {
-        if self.stopped.is_some() {
-            return false;
-        }
-        match self.core.submit(by, body, &mut self.outs) {
-            Ok(()) => {
-                push_all(&mut self.outs);
-                true
-            }
-            Err(stopped) => {
-                self.stopped = Some(stopped);
-                false
-            }
-        }
+        self.step(Event::Submit { by, body })
     }
 
     /// A step in which this sequencer is told what to propose, as `tick` is one.
@@ -181,19 +158,7 @@ impl<N: NodeModel + Drop, D: Disk + Drop> NodeActor<N, D> {
         ensures taken { IsTrue result → self.new.stopped ≡ None }
         ensures stopped { IsFalse result → IsSome self.new.stopped }
     {
-        if self.stopped.is_some() {
-            return false;
-        }
-        match self.core.command(command, &mut self.outs) {
-            Ok(()) => {
-                push_all(&mut self.outs);
-                true
-            }
-            Err(stopped) => {
-                self.stopped = Some(stopped);
-                false
-            }
-        }
+        self.step(Event::Command(command))
     }
 
     /// A step in which the node comes back with what its vault gives, as `tick` is one. The vault is read anew.
@@ -204,10 +169,22 @@ impl<N: NodeModel + Drop, D: Disk + Drop> NodeActor<N, D> {
         ensures taken { IsTrue result → self.new.stopped ≡ None }
         ensures stopped { IsFalse result → IsSome self.new.stopped }
     {
+        self.step(Event::Restart)
+    }
+
+    /// A step of what comes to the node on no link, after which it pushes what fits. Whether it was taken.
+    fn step(&mut self, event: Event) -> bool
+        requires going { CanGoOn ⟦<N as NodeModel>⟧ self.old }
+        requires comes { ComesAlone self.old.core.name event }
+        ensures moved { Moved ⟦<N as NodeModel>⟧ ⟦<D as Disk>⟧ self.old self.new }
+        ensures steps { TookSteps (IsStepOf event) self.old self.new }
+        ensures taken { IsTrue result → self.new.stopped ≡ None }
+        ensures stopped { IsFalse result → IsSome self.new.stopped }
+    {
         if self.stopped.is_some() {
             return false;
         }
-        match self.core.restart(&mut self.outs) {
+        match step_core(&mut self.core, event, &mut self.outs) {
             Ok(()) => {
                 push_all(&mut self.outs);
                 true
@@ -288,6 +265,26 @@ impl<N: NodeModel + Drop, D: Disk + Drop> NodeActor<N, D> {
                 Taken::NoInput
             }
         }
+    }
+}
+
+/// The core's step of what comes to the node on no link.
+fn step_core<N: NodeModel + Drop, D: Disk + Drop>(
+    core: &mut NodeCore<N, D>,
+    event: Event,
+    outs: &mut [LinkOut],
+) -> Result<(), Stopped>
+    requires ready { IsReady ⟦<N as NodeModel>⟧ core.old }
+    requires comes { ComesAlone core.old.name event }
+    ensures ok { OnOk result (TookOne ⟦<N as NodeModel>⟧ ⟦<D as Disk>⟧ event 0 core.old core.new outs.old outs.new) }
+    ensures safely { StepsSafely ⟦<D as Disk>⟧ (stable_of ⟦<N as NodeModel>⟧ core.old event) result core.old core.new outs.old outs.new }
+{
+    match event {
+        Event::Tick => core.tick(outs),
+        Event::Submit { by, body } => core.submit(by, body, outs),
+        Event::Command(command) => core.command(command, outs),
+        Event::Restart => core.restart(outs),
+        Event::Deliver(_) => unreachable!(),
     }
 }
 
