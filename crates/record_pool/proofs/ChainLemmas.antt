@@ -1,5 +1,6 @@
 -- Chains: their parts, and what a changed link or block leaves as it was.
-use Rattle.std.proofs.Common.{◌≡◌, ◌≢◌, ℕ, zero, suc, ◌+◌, ◌-◌, ◌*◌, ◌<◌, ◌≤◌, List, [], ◌∷◌, ◌++◌, length, get_or, set, take, drop, replicate, min, sum, sum_by, ◌⊎◌, inl, inr, refl, sym, ap, ◌∙◌, arith, length-set, length-append, get_or-set_same, get_or-set_other}
+use Rattle.std.proofs.Common.{◌≡◌, ◌≢◌, ℕ, zero, suc, ◌+◌, ◌-◌, ◌*◌, ◌<◌, ◌≤◌, List, [], ◌∷◌, ◌++◌, length, get_or, set, take, drop, replicate, min}
+use Rattle.std.proofs.Common.{sum, sum_by, ◌⊎◌, inl, inr, refl, sym, ap, ◌∙◌, arith, length-set, length-append, get_or-set_same, get_or-set_other}
 use Rattle.std.specs.List.{concat}
 use Rattle.std.proofs.lemmas.List.{take_all, take-append-le, length-take-le, append_assoc, append-nil, take-append-drop, length-drop}
 use Rattle.std.proofs.Math.Seq.{take-append_seam, take-append-add}
@@ -44,7 +45,8 @@ chain_more next at i count h = let e : count - i ≡ suc (count - (i + 1)) = ome
 pub walk_more : (next : List ℕ) (at i count : ℕ) → i < count → walk next at (count - i) ≡ walk next (get_or next at 0) (count - (i + 1))
 walk_more next at i count h = let e : count - i ≡ suc (count - (i + 1)) = omega arith in ap (walk next at) e
 
-pub laid_out_more : (i count : ℕ) (bytes : List ℕ) → i < count → laid_out (count - i) bytes ≡ whole_block (take 64 bytes) ∷ laid_out (count - (i + 1)) (drop 64 bytes)
+pub laid_out_more : (i count : ℕ) (bytes : List ℕ) → i < count → laid_out (count - i) bytes ≡ whole_block (take 64 bytes) ∷ laid_out (count - (i + 1))
+    (drop 64 bytes)
 laid_out_more i count bytes h = let e : count - i ≡ suc (count - (i + 1)) = omega arith in ap (λ n. laid_out n bytes) e
 
 -- blocks that are written
@@ -53,7 +55,8 @@ contents_set blocks n b [] h = refl
 contents_set blocks n b (m ∷ ms) h =
     ap (λ x. x ∷ contents (set blocks n b) ms) (get_or-set_other blocks n m b [] h.0) ∙ ap (λ xs. get_or blocks m [] ∷ xs) (contents_set blocks n b ms h.1)
 
-pub contents_put_other : (blocks : List (List ℕ)) (ns : List ℕ) (bs : List (List ℕ)) (ms : List ℕ) → Apart ns ms → contents (put_all blocks ns bs) ms ≡ contents blocks ms
+pub contents_put_other : (blocks : List (List ℕ)) (ns : List ℕ) (bs : List (List ℕ)) (ms : List ℕ) → Apart ns ms → contents (put_all blocks ns bs) ms ≡
+    contents blocks ms
 contents_put_other blocks [] bs ms h = refl
 contents_put_other blocks (n ∷ ns) [] ms h = refl
 contents_put_other blocks (n ∷ ns) (b ∷ bs) ms h = contents_put_other (set blocks n b) ns bs ms h.1 ∙ contents_set blocks n b ms h.0
@@ -187,7 +190,8 @@ bytes_laid_out (suc count) bytes h =
     elim (le_or_lt (length bytes) 64) [
       | inl few ↦
           let all : front ≡ bytes = take_all 64 bytes few in
-          ap (take (length bytes)) (append_assoc front pad rest) ∙ ap (λ bs. take (length bytes) (bs ++ (pad ++ rest))) all ∙ take-append_seam bytes (pad ++ rest)
+          ap (take (length bytes)) (append_assoc front pad rest) ∙ ap (λ bs. take (length bytes) (bs ++ (pad ++ rest))) all ∙ take-append_seam bytes (pad
+          ++ rest)
       | inr many ↦
           let long : length front ≡ 64 = length-take-le 64 bytes (omega arith) in
           let none : 64 - length front ≡ 0 = omega arith in

@@ -1,18 +1,28 @@
 -- Lists of numbers that miss one another.
 use Rattle.std.proofs.Common.{◌≡◌, ◌≢◌, ℕ, ◌<◌, List, [], ◌∷◌, ◌++◌, length, sym}
+use Rattle.std.specs.List.{AllByRecursion}
 use Rattle.record_pool.specs.inside.Kept.{Misses, Apart, Differ, Below}
 
-pub Misses_append : (n : ℕ) (ms ks : List ℕ) → Misses n ms → Misses n ks → Misses n (ms ++ ks)
-Misses_append n [] ks h k = k
-Misses_append n (m ∷ ms) ks h k = (h.0, Misses_append n ms ks h.1 k)
+all_append : (P : ℕ → Type 0) (ms ks : List ℕ) → AllByRecursion P ms → AllByRecursion P ks → AllByRecursion P (ms ++ ks)
+all_append P [] ks h k = k
+all_append P (m ∷ ms) ks h k = (h.0, all_append P ms ks h.1 k)
 
-pub Misses_front : (n : ℕ) (ms ks : List ℕ) → Misses n (ms ++ ks) → Misses n ms
-Misses_front n [] ks h = tt
-Misses_front n (m ∷ ms) ks h = (h.0, Misses_front n ms ks h.1)
+all_front : (P : ℕ → Type 0) (ms ks : List ℕ) → AllByRecursion P (ms ++ ks) → AllByRecursion P ms
+all_front P [] ks h = tt
+all_front P (m ∷ ms) ks h = (h.0, all_front P ms ks h.1)
 
-pub Misses_back : (n : ℕ) (ms ks : List ℕ) → Misses n (ms ++ ks) → Misses n ks
-Misses_back n [] ks h = h
-Misses_back n (m ∷ ms) ks h = Misses_back n ms ks h.1
+all_back : (P : ℕ → Type 0) (ms ks : List ℕ) → AllByRecursion P (ms ++ ks) → AllByRecursion P ks
+all_back P [] ks h = h
+all_back P (m ∷ ms) ks h = all_back P ms ks h.1
+
+Misses_append : (n : ℕ) (ms ks : List ℕ) → Misses n ms → Misses n ks → Misses n (ms ++ ks)
+Misses_append n = all_append (λ m. m ≢ n)
+
+Misses_front : (n : ℕ) (ms ks : List ℕ) → Misses n (ms ++ ks) → Misses n ms
+Misses_front n = all_front (λ m. m ≢ n)
+
+Misses_back : (n : ℕ) (ms ks : List ℕ) → Misses n (ms ++ ks) → Misses n ks
+Misses_back n = all_back (λ m. m ≢ n)
 
 -- a number of one list is none of another
 pub Apart_at : (ms ks ns : List ℕ) (m : ℕ) → Apart (ms ++ m ∷ ks) ns → Misses m ns
@@ -60,13 +70,10 @@ Differ_apart [] ns h = tt
 Differ_apart (m ∷ ms) ns h = (Misses_back m ms ns h.0, Differ_apart ms ns h.1)
 
 pub Below_append : (limit : ℕ) (ms ns : List ℕ) → Below limit ms → Below limit ns → Below limit (ms ++ ns)
-Below_append limit [] ns h k = k
-Below_append limit (m ∷ ms) ns h k = (h.0, Below_append limit ms ns h.1 k)
+Below_append limit = all_append (λ n. n < limit)
 
 pub Below_front : (limit : ℕ) (ms ns : List ℕ) → Below limit (ms ++ ns) → Below limit ms
-Below_front limit [] ns h = tt
-Below_front limit (m ∷ ms) ns h = (h.0, Below_front limit ms ns h.1)
+Below_front limit = all_front (λ n. n < limit)
 
 pub Below_back : (limit : ℕ) (ms ns : List ℕ) → Below limit (ms ++ ns) → Below limit ns
-Below_back limit [] ns h = h
-Below_back limit (m ∷ ms) ns h = Below_back limit ms ns h.1
+Below_back limit = all_back (λ n. n < limit)

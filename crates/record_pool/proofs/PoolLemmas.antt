@@ -289,6 +289,22 @@ count_most next counts head free total first whole at =
 pub refill_all : (len : ℕ) (ws items : List (List ℕ)) → len ≡ length items → length ws ≡ length items → take len (ws ++ drop (length ws) items) ≡ ws
 refill_all len ws items long same = take-append-le len ws (drop (length ws) items) (omega arith) ∙ take_all len ws (omega arith)
 
+-- what a take writes, in blocks that were lent
+pub record IsWritten (blocks new : List (List ℕ)) (next : List ℕ) (head count len : ℕ) (bytes : List ℕ) : Type 0 where
+  pub is : new ≡ put_all blocks (chain next head count) (laid_out count bytes)
+  pub long : length new ≡ length blocks
+  pub kept : take len (new ++ drop (length new) blocks) ≡ new
+
+pub written_in : (blocks lent_blocks new : List (List ℕ)) (next lent : List ℕ) (head count len : ℕ) (bytes : List ℕ) → len ≡ length blocks
+    → new ≡ put_all lent_blocks (chain lent head count) (laid_out count bytes) → lent_blocks ≡ blocks → lent ≡ next
+    → IsWritten blocks new next head count len bytes
+written_in blocks lent_blocks new next lent head count len bytes size wrote same_blocks same =
+    let is : new ≡ put_all blocks (chain next head count) (laid_out count bytes) =
+    wrote ∙ ap (λ bs. put_all bs (chain lent head count) (laid_out count bytes)) same_blocks
+    ∙ ap (λ ns. put_all blocks (chain ns head count) (laid_out count bytes)) same in
+    let long : length new ≡ length blocks = ap length is ∙ length_put blocks (chain next head count) (laid_out count bytes) in
+    record { is = is; long = long; kept = refill_all len new blocks size long }
+
 -- the pool that a take leaves, as callers see it
 pub pool_taken : (blocks blocks' : List (List ℕ)) (next counts : List ℕ) (head free count first : ℕ) (bytes : List ℕ) (pool : PoolState)
     → IsWhole next counts head free (length blocks) → record { free = free; chains = chains_from blocks next 0 counts } ≡ pool → 1 ≤ count → count ≤ free
@@ -302,6 +318,10 @@ pool_taken blocks blocks' next counts head free count first bytes pool whole is 
     ∙ seen_taken blocks next counts head free count bytes whole some room)
     ∙ ap (λ k. made (free - k) (set old head (laid_out k bytes))) need
     ∙ ap (λ n. made (free - blocks_for (length bytes)) (set old n (laid_out (blocks_for (length bytes)) bytes))) (sym at))
+
+-- there is a free block where as many as some bytes need are free
+pub some_free : (count free seen len : ℕ) → count ≡ blocks_for len → count ≤ seen → free ≡ seen → 1 ≤ free
+some_free count free seen len need room same = omega (arith, need, some_blocks len, room, same)
 
 pub fresh_taken : (blocks : List (List ℕ)) (next counts : List ℕ) (head free first : ℕ) (pool : PoolState)
     → IsWhole next counts head free (length blocks) → record { free = free; chains = chains_from blocks next 0 counts } ≡ pool → 1 ≤ free → first ≡ head
@@ -362,6 +382,48 @@ pool_given blocks next counts head free first c pool item whole is at has count 
     subst P is (ap (made (free + suc c)) (seen_given next counts head free (length blocks) first c whole has blocks inside)
     ∙ ap (λ k. made (free + k) (set old first [])) (sym has ∙ count)
     ∙ ap (λ n. made (free + blocks_for item.len) (set old n [])) at)
+
+pub owned_inside : (blocks : List (List ℕ)) (next counts : List ℕ) (head free first len : ℕ) (pool : PoolState) (item : Ref)
+    → IsWhole next counts head free (length blocks) → record { free = free; chains = chains_from blocks next 0 counts } ≡ pool → Belongs pool item
+    → first ≡ item.first → len ≡ length counts → first < len
+owned_inside blocks next counts head free first len pool item whole is belongs at long =
+    omega (arith, (owned blocks next counts head free first pool item whole is belongs at).inside, long)
+
+-- what is known once its first block and the count there were read, and its last block was walked to
+pub owned_at : (blocks : List (List ℕ)) (next counts : List ℕ) (head free first k : ℕ) (pool : PoolState) (item : Ref)
+    → IsWhole next counts head free (length blocks) → record { free = free; chains = chains_from blocks next 0 counts } ≡ pool → Belongs pool item
+    → first ≡ item.first → k ≡ get_or counts first k → OwnedBy counts first item.len k
+owned_at blocks next counts head free first k pool item whole is belongs at read =
+    owned_by counts first item.len k (owned blocks next counts head free first pool item whole is belongs at) read
+
+pub record EndsAt (next counts : List ℕ) (free first len k last : ℕ) : Type 0 where
+  pub by : OwnedBy counts first len k
+  pub last_is : last ≡ walk next first (k - 1)
+  pub frees : free + k ≡ free + suc (k - 1)
+
+pub ends_at : (next lent counts : List ℕ) (free first len k last : ℕ) → OwnedBy counts first len k → last ≡ walk lent first (k - 1) → lent ≡ next
+    → EndsAt next counts free first len k last
+ends_at next lent counts free first len k last by walked same = record {
+  by = by;
+  last_is = walked ∙ ap (λ ns. walk ns first (k - 1)) same;
+  frees = omega (arith, by.is, by.own.some);
+}
+
+pub whole_given_at : (next counts : List ℕ) (head free total first len k last : ℕ) → IsWhole next counts head free total
+    → EndsAt next counts free first len k last → IsWhole (set next last head) (set counts first 0) first (free + k) total
+whole_given_at next counts head free total first len k last whole ends =
+    subst (λ n. IsWhole (set next n head) (set counts first 0) first (free + k) total) (sym ends.last_is)
+    (subst (λ f. IsWhole (set next (walk next first (k - 1)) head) (set counts first 0) first f total) (sym ends.frees)
+    (whole_given next counts head free total first (k - 1) whole ends.by.has ends.by.own.inside))
+
+pub pool_given_at : (blocks : List (List ℕ)) (next counts : List ℕ) (head free first k last : ℕ) (pool : PoolState) (item : Ref)
+    → IsWhole next counts head free (length blocks) → record { free = free; chains = chains_from blocks next 0 counts } ≡ pool → first ≡ item.first
+    → EndsAt next counts free first item.len k last
+    → record { free = free + k; chains = chains_from blocks (set next last head) 0 (set counts first 0) } ≡ without pool item
+pool_given_at blocks next counts head free first k last pool item whole is at ends =
+    let made : ℕ → ℕ → PoolState = λ n f. record { free = f; chains = chains_from blocks (set next n head) 0 (set counts first 0) } in
+    ap (λ n. made n (free + k)) ends.last_is ∙ ap (made (walk next first (k - 1))) ends.frees
+    ∙ pool_given blocks next counts head free first (k - 1) pool item whole is at ends.by.has ends.by.own.count ends.by.own.inside
 
 -- the bytes that are read
 pub bytes_read : (blocks : List (List ℕ)) (next counts : List ℕ) (free first count : ℕ) (pool : PoolState) (item : Ref)

@@ -1,11 +1,11 @@
 -- How the chains of a pool lie in its blocks.
 use Rattle.std.specs.Prelude.{◌≡◌, ◌≢◌, ℕ, zero, suc, ◌+◌, ◌^◌, ◌<◌, List, [], ◌∷◌, length, get_or, sum}
+use Rattle.std.specs.List.{AllByRecursion}
 use Rattle.record_pool.specs.Chains.{chain, contents}
 
 -- a number that is none of these
 abbrev pub Misses : ℕ → List ℕ → Type 0
-Misses n [] = Unit {0}
-Misses n (m ∷ ms) = (m ≢ n) × Misses n ms
+Misses n = AllByRecursion (λ (m : ℕ). m ≢ n)
 
 -- no number is one of the others
 abbrev pub Apart : List ℕ → List ℕ → Type 0
@@ -19,8 +19,7 @@ Differ (n ∷ ns) = Misses n ns × Differ ns
 
 -- each number is below a limit
 abbrev pub Below : ℕ → List ℕ → Type 0
-Below limit [] = Unit {0}
-Below limit (n ∷ ns) = (n < limit) × Below limit ns
+Below limit = AllByRecursion (λ (n : ℕ). n < limit)
 
 -- the chain of the reference that begins at a block, empty where none does
 abbrev pub chain_from : List ℕ → List ℕ → ℕ → List ℕ

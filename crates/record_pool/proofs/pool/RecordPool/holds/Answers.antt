@@ -24,7 +24,8 @@ returns c =
     let has : c.from.result ≡ get_or counts item.first 0 =
     c.from.ensures ∙ c.index.ensures ∙ get_or_default_zero counts first c.index.result.now inside ∙ ap (λ n. get_or counts n 0) c.first-first.ensures in
     let need : c.needed.result ≡ blocks_for item.len = c.needed.ensures ∙ ap blocks_for c.len-2.ensures in (
-      (λ e. belongs_by i.blocks.items i.next.items counts i.free c.args.self.now item c.self.view_is (sym has ∙ eqb-true c.from.result c.needed.result e ∙ need)),
+      (λ e. belongs_by i.blocks.items i.next.items counts i.free c.args.self.now item c.self.view_is (sym has ∙ eqb-true c.from.result c.needed.result e ∙
+          need)),
       (λ belongs. eq-eqb c.from.result c.needed.result
           (has ∙ count_of i.blocks.items i.next.items counts i.free c.args.self.now item c.self.view_is belongs ∙ sym need)),
     )
