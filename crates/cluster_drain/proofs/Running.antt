@@ -1,6 +1,6 @@
 -- A drain part by part: a part after a part is a part, a step counts, and what takes no step counts nothing.
-use Rattle.std.proofs.Common.{◌≡◌, ◌⊎◌, inl, inr, true, false, ℕ, zero, suc, ◌<◌, ◌+◌, List, [], ◌∷◌, length, length-append, get_or, set, IsSome, Result, Ok}
-use Rattle.std.proofs.Common.{Err, refl, sym, ap, ◌∙◌, subst, arith}
+use Rattle.std.proofs.Common.{◌≡◌, ◌⊎◌, inl, inr, true, false, ℕ, zero, suc, ◌<◌, ◌≤◌, ◌+◌, List, [], ◌∷◌, length, length-append, get_or, set}
+use Rattle.std.proofs.Common.{IsSome, Result, Ok, OnOk, None, Some, Err, refl, sym, ap, ◌∙◌, subst, arith}
 use Rattle.spec_base.specs.declared.disk.Disk.{Ghosts as DiskRules}
 use Rattle.net_model.specs.declared.journal.Stamped.{Stamped}
 use Rattle.net_model.specs.declared.model.NodeModel.{Ghosts as NodeRules}
@@ -9,15 +9,17 @@ use Rattle.node_actor.specs.declared.actor.NodeActor.{NodeActor}
 use Rattle.node_actor.specs.declared.taken.Taken.{Taken}
 use Rattle.node_actor.specs.declared.taken.Taken.TheVariants as takes
 use Rattle.node_actor.specs.Cores.{steps_of}
+use Rattle.node_actor.proofs.Results.{map_ok}
 use Rattle.node_actor.specs.Turns.{AreStepsOf, IsStepOf, TookSteps}
 use Rattle.node_seats.specs.Seats.{AreGoing}
 use Rattle.node_seats.proofs.Zips.{all_set}
 use Rattle.cluster_drain.specs.declared.drained.Early.{Early}
 use Rattle.cluster_drain.specs.declared.drained.Early.TheVariants as early
-use Rattle.cluster_drain.specs.Drains.{CanDrain, EndsSo}
-use Rattle.cluster_drain.specs.inside.Runs.{CanRun, GoesOn, IsCounted, Runs, early_of}
+use Rattle.cluster_drain.specs.Drains.{CanDrain, EndsSo, TookTicks, steps_in}
+use Rattle.cluster_drain.specs.inside.Runs.{CanRun, GoesOn, IsCounted, Runs, Ticked, at_only, each, early_of}
 use Rattle.cluster_drain.specs.inside.Pairs.{IsSettledPair}
 use Rattle.cluster_drain.proofs.Pairs.{pair_drains, pair_going, pair_steps}
+use Rattle.cluster_drain.proofs.Ticking.{TicksMore, only_none, pair_ticked, ticked_as, ticked_itself, ticked_set, ticked_then, took_ticks}
 use Rattle.cluster_drain.proofs.Writing.{IsGoing, Stays, drains_itself, drains_set, drains_then, steps_set}
 
 going_at : {N D : Type 0} (xs : List (NodeActor N D)) (k : ℕ) (y : NodeActor N D) → k < length xs → AreGoing (set xs k y) → IsGoing y
@@ -42,6 +44,10 @@ one_more_going place xs all one = λ k d low. by k d (at_end k place low) where
   by : (k : ℕ) (d : NodeActor _ _) → (k < place) ⊎ (k ≡ place) → IsGoing (get_or xs k d)
   by k d (inl lower) = all k d lower
   by k d (inr last) = subst (λ n. IsGoing (get_or xs n d)) (sym last) (one d)
+
+always_ok : {T E A : Type 0} (result : Result T E) → A → OnOk result A
+always_ok (Ok done) a = a
+always_ok (Err why) a = tt
 
 -- so many steps more
 abbrev pub TookMore : {N D : Type 0} → ℕ → NodeActor N D → NodeActor N D → Type 0
@@ -75,12 +81,20 @@ pub tick_more : {N D : Type 0} (before after : NodeActor N D) → TookSteps (IsS
 tick_more before after took = took_more (IsStepOf events.Tick) 1 before after (λ steps is. ap length is.1) took
 
 module _ {N D : Type 0} (rules : NodeRules N) (disk : DiskRules D) where
-  pub runs_itself : (left : ℕ) (xs : List (NodeActor N D)) → CanRun rules left xs → Runs {T = Unit {0}} rules disk (Ok tt) left left xs xs
-  runs_itself left xs can = record { drains = drains_itself rules disk xs; took = λ going. refl; fewer = omega arith; ends = (can.some, can.going) }
+  pub runs_itself : (left : ℕ) (xs : List (NodeActor N D)) → CanRun rules left xs → Runs {T = Unit {0}} rules disk (each 0) (Ok tt) left left xs xs
+  runs_itself left xs can = record {
+    drains = drains_itself rules disk xs;
+    took = λ going. refl;
+    fewer = omega arith;
+    ends = (can.some, can.going);
+    ticked = ticked_itself xs;
+  }
 
-  pub runs_then : {T : Type 0} (result : Result T Early) (left mid last : ℕ) (xs ys zs : List (NodeActor N D))
-      → Runs {T = Unit {0}} rules disk (Ok tt) left mid xs ys → Runs rules disk result mid last ys zs → Runs rules disk result left last xs zs
-  runs_then result left mid last xs ys zs first second =
+  -- a part, and another one after it
+  pub runs_more : {T : Type 0} (a b c : ℕ → ℕ) (result : Result T Early) (left mid last : ℕ) (xs ys zs : List (NodeActor N D))
+      → ((place : ℕ) → place < length xs → a place + b place ≡ c place) → Runs {T = Unit {0}} rules disk a (Ok tt) left mid xs ys
+      → Runs rules disk b result mid last ys zs → Runs rules disk c result left last xs zs
+  runs_more a b c result left mid last xs ys zs sum first second =
       let low = first.fewer in
       let lower = second.fewer in
       record {
@@ -88,47 +102,84 @@ module _ {N D : Type 0} (rules : NodeRules N) (disk : DiskRules D) where
         took = λ going. second.took going ∙ first.took (second.drains.going going);
         fewer = omega (arith, low, lower);
         ends = second.ends;
+        ticked = map_ok result (ticked_then a b c xs ys zs first.drains.as_many sum first.ticked) second.ticked;
       }
 
-  pub can_still : (left mid : ℕ) (xs ys : List (NodeActor N D)) → CanDrain rules xs → Runs {T = Unit {0}} rules disk (Ok tt) left mid xs ys → CanRun
-      rules mid ys
+  pub runs_then : {T : Type 0} (result : Result T Early) (left mid last : ℕ) (xs ys zs : List (NodeActor N D))
+      → Runs {T = Unit {0}} rules disk (each 0) (Ok tt) left mid xs ys → Runs rules disk (each 0) result mid last ys zs
+      → Runs rules disk (each 0) result left last xs zs
+  runs_then result left mid last xs ys zs first second =
+      runs_more (each 0) (each 0) (each 0) result left mid last xs ys zs (λ place low. omega arith) first second
+
+  -- as many ticks, said otherwise
+  pub runs_as : {T : Type 0} (a c : ℕ → ℕ) (result : Result T Early) (left last : ℕ) (xs ys : List (NodeActor N D))
+      → ((place : ℕ) → place < length xs → a place ≡ c place) → Runs rules disk a result left last xs ys → Runs rules disk c result left last xs ys
+  runs_as a c result left last xs ys same runs = record {
+    drains = runs.drains;
+    took = runs.took;
+    fewer = runs.fewer;
+    ends = runs.ends;
+    ticked = map_ok result (ticked_as a c xs ys same) runs.ticked;
+  }
+
+  -- a part that failed, after others or alone: no count is said of it
+  pub fails_as : {T U : Type 0} {a c : ℕ → ℕ} (why : Early) (left last : ℕ) (xs ys : List (NodeActor N D))
+      → Runs {T = T} rules disk a (Err why) left last xs ys → Runs {T = U} rules disk c (Err why) left last xs ys
+  fails_as why left last xs ys runs = record { drains = runs.drains; took = runs.took; fewer = runs.fewer; ends = runs.ends; ticked = tt }
+
+  pub fails_then : {T U : Type 0} {a b c : ℕ → ℕ} (why : Early) (left mid last : ℕ) (xs ys zs : List (NodeActor N D))
+      → Runs {T = Unit {0}} rules disk a (Ok tt) left mid xs ys → Runs {T = T} rules disk b (Err why) mid last ys zs
+      → Runs {T = U} rules disk c (Err why) left last xs zs
+  fails_then {T} {U} {a} {b} {c} why left mid last xs ys zs first second =
+      fails_as {T = T} {U = U} {a = λ place. a place + b place} {c = c} why left last xs zs
+      (runs_more a b (λ place. a place + b place) (Err why) left mid last xs ys zs (λ place low. refl) first second)
+
+  pub can_still : {counts : ℕ → ℕ} (left mid : ℕ) (xs ys : List (NodeActor N D)) → CanDrain rules xs
+      → Runs {T = Unit {0}} rules disk counts (Ok tt) left mid xs ys → CanRun rules mid ys
   can_still left mid xs ys can so_far = record { can = so_far.drains.can can; going = so_far.ends.1; some = so_far.ends.0 }
 
   -- ---- one actor
 
-  pub step_runs : {T : Type 0} (result : Result T Early) (left left' : ℕ) (xs : List (NodeActor N D)) (k : ℕ) (d y : NodeActor N D) → k < length xs
-      → CanRun rules left xs → Stays rules disk (get_or xs k d) y → TookMore 1 (get_or xs k d) y → IsGoing y → IsCounted result left left'
-      → Runs rules disk result left left' xs (set xs k y)
-  step_runs (Ok done) left left' xs k d y within can stays more calm count =
-      let one = count.0 in
-      let steps = steps_set xs k d y 1 within (more calm) in
-      record {
-        drains = drains_set rules disk xs k d y within stays;
-        took = λ going. omega (arith, steps, one);
-        fewer = omega (arith, one);
-        ends = (count.1, all_set IsGoing xs k y can.going calm);
-      }
-  step_runs (Err early.Limit) left left' xs k d y within can stays more calm count =
-      let one = count.0 in
-      let steps = steps_set xs k d y 1 within (more calm) in
-      record {
-        drains = drains_set rules disk xs k d y within stays;
-        took = λ going. omega (arith, steps, one);
-        fewer = omega (arith, one);
-        ends = count.1;
-      }
-  step_runs (Err early.Stopped) left left' xs k d y within can stays more calm count = absurd count
-  step_runs (Err early.Memory) left left' xs k d y within can stays more calm count = absurd count
+  -- a step of which so many are ticks
+  pub step_runs : {T : Type 0} (ticks : ℕ) (result : Result T Early) (left left' : ℕ) (xs : List (NodeActor N D)) (k : ℕ) (d y : NodeActor N D)
+      → k < length xs → CanRun rules left xs → Stays rules disk (get_or xs k d) y → TookMore 1 (get_or xs k d) y → TicksMore ticks (get_or xs k d) y
+      → IsGoing y → IsCounted result left left' → Runs rules disk (at_only ticks k) result left left' xs (set xs k y)
+  step_runs ticks result left left' xs k d y within can stays more ticked calm count = record {
+    drains = drains_set rules disk xs k d y within stays;
+    took = λ going. by result count (steps_set xs k d y 1 within (more calm));
+    fewer = fewer result count;
+    ends = ends result count;
+    ticked = always_ok result (ticked_set xs k d y ticks within (ticked calm));
+  } where
+    by : {U : Type 0} (r : Result U Early) → IsCounted r left left' → steps_in (set xs k y) ≡ steps_in xs + 1
+        → steps_in (set xs k y) + left' ≡ steps_in xs + left
+    by (Ok done) one steps = omega (arith, one.0, steps)
+    by (Err early.Limit) one steps = omega (arith, one.0, steps)
+    by (Err early.Stopped) never steps = absurd never
+    by (Err early.Memory) never steps = absurd never
+
+    fewer : {U : Type 0} (r : Result U Early) → IsCounted r left left' → left' ≤ left
+    fewer (Ok done) one = omega (arith, one.0)
+    fewer (Err early.Limit) one = omega (arith, one.0)
+    fewer (Err early.Stopped) never = absurd never
+    fewer (Err early.Memory) never = absurd never
+
+    ends : {U : Type 0} (r : Result U Early) → IsCounted r left left' → EndsSo (early_of r) left' (set xs k y)
+    ends (Ok done) one = (one.1, all_set IsGoing xs k y can.going calm)
+    ends (Err early.Limit) one = one.1
+    ends (Err early.Stopped) never = absurd never
+    ends (Err early.Memory) never = absurd never
 
   -- where no step was taken, it goes on unless the actor is stopped
   pub rest_runs : {T : Type 0} (result : Result T Early) (left : ℕ) (xs : List (NodeActor N D)) (k : ℕ) (d y : NodeActor N D) → k < length xs
-      → CanRun rules left xs → Stays rules disk (get_or xs k d) y → TookMore 0 (get_or xs k d) y → GoesOn result y
-      → Runs rules disk result left left xs (set xs k y)
-  rest_runs result left xs k d y within can stays more goes = record {
+      → CanRun rules left xs → Stays rules disk (get_or xs k d) y → TookMore 0 (get_or xs k d) y → TicksMore 0 (get_or xs k d) y → GoesOn result y
+      → Runs rules disk (each 0) result left left xs (set xs k y)
+  rest_runs result left xs k d y within can stays more ticked goes = record {
     drains = drains_set rules disk xs k d y within stays;
     took = λ going. let steps = steps_set xs k d y 0 within (more (going_at xs k y within going)) in omega (arith, steps);
     fewer = omega arith;
     ends = so result goes;
+    ticked = ticks result goes;
   } where
     so : {U : Type 0} (r : Result U Early) → GoesOn r y → EndsSo (early_of r) left (set xs k y)
     so (Ok done) calm = (can.some, all_set IsGoing xs k y can.going calm)
@@ -136,36 +187,49 @@ module _ {N D : Type 0} (rules : NodeRules N) (disk : DiskRules D) where
     so (Err early.Stopped) stopped = (can.some, λ all. stopped (going_at xs k y within all))
     so (Err early.Memory) never = absurd never
 
+    ticks : {U : Type 0} (r : Result U Early) → GoesOn r y → OnOk r (Ticked (each 0) xs (set xs k y))
+    ticks (Ok done) calm =
+        ticked_as (at_only 0 k) (each 0) xs (set xs k y) (λ place low. only_none k place) (ticked_set xs k d y 0 within (ticked calm))
+    ticks (Err why) goes = tt
+
   -- a step that stopped its actor
-  pub stopped_runs : (left : ℕ) (xs : List (NodeActor N D)) (k : ℕ) (d y : NodeActor N D) → k < length xs → CanRun rules left xs
-      → Stays rules disk (get_or xs k d) y → IsSome y.stopped → Runs {T = Unit {0}} rules disk (Err early.Stopped) left left xs (set xs k y)
-  stopped_runs left xs k d y within can stays some =
+  pub stopped_runs : (counts : ℕ → ℕ) (left : ℕ) (xs : List (NodeActor N D)) (k : ℕ) (d y : NodeActor N D) → k < length xs → CanRun rules left xs
+      → Stays rules disk (get_or xs k d) y → IsSome y.stopped → Runs {T = Unit {0}} rules disk counts (Err early.Stopped) left left xs (set xs k y)
+  stopped_runs counts left xs k d y within can stays some =
       let never : AreGoing (set xs k y) → ⊥ = λ all. let wrong : false ≡ true = subst IsSome (going_at xs k y within all) some in absurd cc in
       record {
         drains = drains_set rules disk xs k d y within stays;
         took = λ going. absurd (never going);
         fewer = omega arith;
         ends = (can.some, never);
+        ticked = tt;
       }
 
   -- a drain that ends as it begins
-  pub none_runs : {T : Type 0} (result : Result T Early) (left : ℕ) (xs : List (NodeActor N D)) → EndsSo (early_of result) left xs
-      → Runs rules disk result left left xs xs
-  none_runs result left xs ends = record { drains = drains_itself rules disk xs; took = λ going. refl; fewer = omega arith; ends = ends }
+  pub none_runs : (counts : ℕ → ℕ) (why : Early) (left : ℕ) (xs : List (NodeActor N D)) → EndsSo (Some why) left xs
+      → Runs {T = Unit {0}} rules disk counts (Err why) left left xs xs
+  none_runs counts why left xs ends = record { drains = drains_itself rules disk xs; took = λ going. refl; fewer = omega arith; ends = ends; ticked = tt }
 
   -- frames that lie elsewhere are no step
   pub pair_runs : (left from to : ℕ) (xs zs : List (NodeActor N D)) → IsSettledPair from to xs zs → from < length xs → to < length xs → CanRun rules left xs
-      → Runs {T = Unit {0}} rules disk (Ok tt) left left xs zs
+      → Runs {T = Unit {0}} rules disk (each 0) (Ok tt) left left xs zs
   pair_runs left from to xs zs p low high can = record {
     drains = pair_drains rules disk from to xs zs p low high;
     took = λ going. ap (λ n. n + left) (pair_steps from to xs zs p low high);
     fewer = omega arith;
     ends = (can.some, pair_going from to xs zs p low high can.going);
+    ticked = pair_ticked from to xs zs p low high;
   }
 
   -- where memory was refused
   pub refused_runs : (left from to : ℕ) (xs zs : List (NodeActor N D)) → IsSettledPair from to xs zs → from < length xs → to < length xs → CanRun rules left xs
-      → Runs {T = Unit {0}} rules disk (Err early.Memory) left left xs zs
+      → Runs {T = Unit {0}} rules disk (each 0) (Err early.Memory) left left xs zs
   refused_runs left from to xs zs p low high can =
       let runs = pair_runs left from to xs zs p low high can in
-      record { drains = runs.drains; took = runs.took; fewer = runs.fewer; ends = can.some }
+      record { drains = runs.drains; took = runs.took; fewer = runs.fewer; ends = can.some; ticked = tt }
+
+  -- a drain that came to its end
+  pub ended_ticks : {T : Type 0} (count : ℕ) (result : Result T Early) (left last : ℕ) (xs ys : List (NodeActor N D))
+      → Runs rules disk (each count) result left last xs ys → early_of result ≡ None → TookTicks count xs ys
+  ended_ticks count (Ok done) left last xs ys runs is = took_ticks count xs ys runs.drains.as_many runs.ticked
+  ended_ticks count (Err why) left last xs ys runs is = absurd cc

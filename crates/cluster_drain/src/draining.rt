@@ -1,7 +1,7 @@
-ghost use Rattle.std.specs.Prelude.{◌<◌, ◌≤◌, ◌-◌, length, IsTrue, IsFalse};
+ghost use Rattle.std.specs.Prelude.{◌≡◌, ◌<◌, ◌≤◌, ◌-◌, length, None, IsTrue, IsFalse};
 ghost use Rattle.node_seats.specs.Seats.{AreGoing};
-ghost use Rattle.cluster_drain.specs.Drains.{CanDrain, Drains, EndsSo, TookInputs};
-ghost use Rattle.cluster_drain.specs.inside.Runs.{CanRun, GoesOn, IsCounted, Runs};
+ghost use Rattle.cluster_drain.specs.Drains.{CanDrain, Drains, EndsSo, TookInputs, TookTicks};
+ghost use Rattle.cluster_drain.specs.inside.Runs.{CanRun, GoesOn, IsCounted, IsLinkIn, Runs, at_only, each, ticks_told};
 
 use crate::drained::{Drained, Early};
 use crate::links::settle_link;
@@ -22,6 +22,7 @@ pub fn drain<N: NodeModel + Drop, D: Disk + Drop>(
     ensures inputs { TookInputs result.inputs actors.old actors.new }
     ensures at_most { result.inputs ≤ limit }
     ensures ends { EndsSo result.early (limit - result.inputs) actors.new }
+    ensures ticks { result.early ≡ None → TookTicks settle actors.old actors.new }
 {
     let mut left = limit;
     let early = match drain_left(actors, settle, &mut left) {
@@ -55,7 +56,7 @@ fn drain_left<N: NodeModel + Drop, D: Disk + Drop>(
     left: &mut u32,
 ) -> Result<(), Early>
     requires { CanDrain ⟦<N as NodeModel>⟧ actors.old }
-    ensures { Runs ⟦<N as NodeModel>⟧ ⟦<D as Disk>⟧ result left.old left.new actors.old actors.new }
+    ensures { Runs ⟦<N as NodeModel>⟧ ⟦<D as Disk>⟧ (each settle) result left.old left.new actors.old actors.new }
 {
     if *left == 0 {
         return Err(Early::Limit);
@@ -73,7 +74,7 @@ fn drain_all<N: NodeModel + Drop, D: Disk + Drop>(
     left: &mut u32,
 ) -> Result<(), Early>
     requires { CanRun ⟦<N as NodeModel>⟧ left.old actors.old }
-    ensures { Runs ⟦<N as NodeModel>⟧ ⟦<D as Disk>⟧ result left.old left.new actors.old actors.new }
+    ensures { Runs ⟦<N as NodeModel>⟧ ⟦<D as Disk>⟧ (each settle) result left.old left.new actors.old actors.new }
 {
     take_frames(actors, left)?;
     for _round in 0..settle {
@@ -88,9 +89,9 @@ fn take_round<N: NodeModel + Drop, D: Disk + Drop>(
     left: &mut u32,
 ) -> Result<(), Early>
     requires { CanRun ⟦<N as NodeModel>⟧ left.old actors.old }
-    ensures { Runs ⟦<N as NodeModel>⟧ ⟦<D as Disk>⟧ result left.old left.new actors.old actors.new }
+    ensures { Runs ⟦<N as NodeModel>⟧ ⟦<D as Disk>⟧ (each 1) result left.old left.new actors.old actors.new }
 {
-    tick_all(actors, left)?;
+    at_all(actors, Part::Tick, left)?;
     take_frames(actors, left)
 }
 
@@ -100,29 +101,56 @@ fn take_frames<N: NodeModel + Drop, D: Disk + Drop>(
     left: &mut u32,
 ) -> Result<(), Early>
     requires { CanRun ⟦<N as NodeModel>⟧ left.old actors.old }
-    ensures { Runs ⟦<N as NodeModel>⟧ ⟦<D as Disk>⟧ result left.old left.new actors.old actors.new }
+    ensures { Runs ⟦<N as NodeModel>⟧ ⟦<D as Disk>⟧ (each 0) result left.old left.new actors.old actors.new }
 {
     loop {
         let before = *left;
-        take_pass(actors, left)?;
+        at_all(actors, Part::Frames, left)?;
         if *left == before {
             return Ok(());
         }
     }
 }
 
-/// Takes what is queued, node by node.
-fn take_pass<N: NodeModel + Drop, D: Disk + Drop>(
+/// What nodes are told in turn.
+#[derive(Clone, Copy)]
+enum Part {
+    /// To take a tick.
+    Tick,
+    /// To take all frames that are queued for them.
+    Frames,
+}
+
+/// Each node does its part, in order.
+fn at_all<N: NodeModel + Drop, D: Disk + Drop>(
     actors: &mut [NodeActor<N, D>],
+    part: Part,
     left: &mut u32,
 ) -> Result<(), Early>
     requires { CanRun ⟦<N as NodeModel>⟧ left.old actors.old }
-    ensures { Runs ⟦<N as NodeModel>⟧ ⟦<D as Disk>⟧ result left.old left.new actors.old actors.new }
+    ensures { Runs ⟦<N as NodeModel>⟧ ⟦<D as Disk>⟧ (each (ticks_told part)) result left.old left.new actors.old actors.new }
 {
-    for to in 0..actors.len() {
-        take_from_all(actors, to, left)?;
+    for place in 0..actors.len() {
+        at_one(actors, place, part, left)?;
     }
     Ok(())
+}
+
+/// One node does its part.
+fn at_one<N: NodeModel + Drop, D: Disk + Drop>(
+    actors: &mut [NodeActor<N, D>],
+    place: usize,
+    part: Part,
+    left: &mut u32,
+) -> Result<(), Early>
+    requires can { CanRun ⟦<N as NodeModel>⟧ left.old actors.old }
+    requires place { place < length actors.old }
+    ensures { Runs ⟦<N as NodeModel>⟧ ⟦<D as Disk>⟧ (at_only (ticks_told part) place) result left.old left.new actors.old actors.new }
+{
+    match part {
+        Part::Tick => tick_one(actors, place, left),
+        Part::Frames => take_from_all(actors, place, left),
+    }
 }
 
 /// Takes all frames that are queued for one node, link by link.
@@ -133,32 +161,38 @@ fn take_from_all<N: NodeModel + Drop, D: Disk + Drop>(
 ) -> Result<(), Early>
     requires can { CanRun ⟦<N as NodeModel>⟧ left.old actors.old }
     requires to { to < length actors.old }
-    ensures { Runs ⟦<N as NodeModel>⟧ ⟦<D as Disk>⟧ result left.old left.new actors.old actors.new }
+    ensures { Runs ⟦<N as NodeModel>⟧ ⟦<D as Disk>⟧ (each 0) result left.old left.new actors.old actors.new }
 {
     for from in 0..actors.len() {
-        take_link(actors, from, to, left)?;
+        take_link(actors, Link { from, to }, left)?;
     }
     Ok(())
+}
+
+/// The link from the node at a place to the one at another.
+#[derive(Clone, Copy)]
+struct Link {
+    from: usize,
+    to: usize,
 }
 
 /// Takes all frames that are queued on one link.
 fn take_link<N: NodeModel + Drop, D: Disk + Drop>(
     actors: &mut [NodeActor<N, D>],
-    from: usize,
-    to: usize,
+    link: Link,
     left: &mut u32,
 ) -> Result<(), Early>
     requires can { CanRun ⟦<N as NodeModel>⟧ left.old actors.old }
-    requires from { from < length actors.old }
-    requires to { to < length actors.old }
-    ensures { Runs ⟦<N as NodeModel>⟧ ⟦<D as Disk>⟧ result left.old left.new actors.old actors.new }
+    requires link { IsLinkIn actors.old link }
+    ensures { Runs ⟦<N as NodeModel>⟧ ⟦<D as Disk>⟧ (each 0) result left.old left.new actors.old actors.new }
 {
+    let Link { from, to } = link;
     if settle_link(actors, from, to).is_err() {
         return Err(Early::Memory);
     }
     let count = actors[to].waiting(from);
     for _frame in 0..count {
-        take_frame(actors, from, to, left)?;
+        take_frame(actors, link, left)?;
     }
     Ok(())
 }
@@ -166,18 +200,16 @@ fn take_link<N: NodeModel + Drop, D: Disk + Drop>(
 /// Takes the next frame of a link.
 fn take_frame<N: NodeModel + Drop, D: Disk + Drop>(
     actors: &mut [NodeActor<N, D>],
-    from: usize,
-    to: usize,
+    link: Link,
     left: &mut u32,
 ) -> Result<(), Early>
     requires can { CanRun ⟦<N as NodeModel>⟧ left.old actors.old }
-    requires from { from < length actors.old }
-    requires to { to < length actors.old }
-    ensures { Runs ⟦<N as NodeModel>⟧ ⟦<D as Disk>⟧ result left.old left.new actors.old actors.new }
+    requires link { IsLinkIn actors.old link }
+    ensures { Runs ⟦<N as NodeModel>⟧ ⟦<D as Disk>⟧ (each 0) result left.old left.new actors.old actors.new }
 {
-    match actors[to].take_frame_from(from) {
+    match actors[link.to].take_frame_from(link.from) {
         Taken::Input => count_input(left),
-        Taken::NoInput | Taken::Nothing => go_on(&actors[to]),
+        Taken::NoInput | Taken::Nothing => go_on(&actors[link.to]),
     }
 }
 
@@ -191,20 +223,6 @@ fn go_on<N: NodeModel + Drop, D: Disk + Drop>(actor: &NodeActor<N, D>) -> Result
     }
 }
 
-/// A tick of each node.
-fn tick_all<N: NodeModel + Drop, D: Disk + Drop>(
-    actors: &mut [NodeActor<N, D>],
-    left: &mut u32,
-) -> Result<(), Early>
-    requires { CanRun ⟦<N as NodeModel>⟧ left.old actors.old }
-    ensures { Runs ⟦<N as NodeModel>⟧ ⟦<D as Disk>⟧ result left.old left.new actors.old actors.new }
-{
-    for place in 0..actors.len() {
-        tick_one(actors, place, left)?;
-    }
-    Ok(())
-}
-
 fn tick_one<N: NodeModel + Drop, D: Disk + Drop>(
     actors: &mut [NodeActor<N, D>],
     place: usize,
@@ -212,7 +230,7 @@ fn tick_one<N: NodeModel + Drop, D: Disk + Drop>(
 ) -> Result<(), Early>
     requires can { CanRun ⟦<N as NodeModel>⟧ left.old actors.old }
     requires place { place < length actors.old }
-    ensures { Runs ⟦<N as NodeModel>⟧ ⟦<D as Disk>⟧ result left.old left.new actors.old actors.new }
+    ensures { Runs ⟦<N as NodeModel>⟧ ⟦<D as Disk>⟧ (at_only 1 place) result left.old left.new actors.old actors.new }
 {
     if !actors[place].tick() {
         return Err(Early::Stopped);

@@ -8,6 +8,8 @@ mod drained;
 mod draining;
 mod links;
 mod settling;
+#[cfg(test)]
+mod tests;
 
 pub use drained::{Drained, Early};
 pub use draining::drain;

@@ -11,8 +11,7 @@ take_link-requires g c =
     let as_many = c.loop-from.invariant.0.drains.as_many in
     record {
       can = can_still g.N.NodeModel g.D.Disk c.args.left.now c.loop-from.left c.args.actors.now c.loop-from.actors c.requires.can.can c.loop-from.invariant.0;
-      from = omega (arith, c.loop-from-test.true, c.loop-from.invariant.1, as_many);
-      to = omega (arith, c.requires.to, as_many);
+      link = record { from = omega (arith, c.loop-from-test.true, c.loop-from.invariant.1, as_many); to = omega (arith, c.requires.to, as_many) };
     }
 
 pub loop-from-preserved : goal.loop-from-preserved

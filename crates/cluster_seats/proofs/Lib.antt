@@ -1,0 +1,6 @@
+pub mod Begun
+pub mod Counts
+pub mod Lists
+pub mod Making
+pub mod NewBlanks
+pub mod NewFaults

@@ -1,0 +1,4 @@
+pub mod Blanks
+pub mod Seatings
+pub mod Toys
+pub mod inside
