@@ -1,0 +1,6 @@
+mod Counting
+mod Members
+mod Lists
+mod Crews
+mod Following
+mod ToyCrews

@@ -1,0 +1,2 @@
+-- What only this crate's tests cite.
+pub mod Toys
