@@ -1,0 +1,4 @@
+pub mod Beginning
+pub mod Fitting
+pub mod Joining
+pub mod Places
