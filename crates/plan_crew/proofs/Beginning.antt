@@ -89,7 +89,8 @@ module _ {N D P : Type 0} (rules : NodeRules N) (disk : DiskRules D) where
 
 -- there are as many sides as nodes
 pub as_many : {N D : Type 0} (P : Type 0) (plan : Plan) (desks : List DeskView) (actors : List (NodeActor N D)) (takers : List Taker)
-    (publishers : List Showing) (readers : List Reading) (submitters : List Submitting) → AreNew plan.cfg actors → BelongToPlan plan desks takers publishers readers submitters
+    (publishers : List Showing) (readers : List Reading) (submitters : List Submitting) → AreNew plan.cfg actors
+    → BelongToPlan plan desks takers publishers readers submitters
     → plan.cfg.seqs + 2 * plan.cfg.shards + length takers + length publishers ≡ length actors
 as_many P plan desks actors takers publishers readers submitters new belong =
     let bare = plan.cfg.seqs + 2 * plan.cfg.shards in
