@@ -23,48 +23,43 @@ use Rattle.msg_wire.specs.Decoding.{byte_in, two_in, four_in, eight_in, kind_in,
 abbrev pub IsWithin : ℕ → ℕ → ℕ → Type 0
 IsWithin least most n = (least ≤ n) × (n ≤ most)
 
+-- in one byte
 pub byte_takes : (least most : ℕ) → Takes single (IsWithin least most) (byte_in least most)
 unfolding byte_in
 byte_takes least most = field_takes Short (λ at n. BadField at) least most single (2 ^ 8) byte_at bytes_are_numbers
-
-pub two_takes_in : (least most : ℕ) → Takes two (IsWithin least most) (two_in least most)
-unfolding two_in
-two_takes_in least most = field_takes Short (λ at n. BadField at) least most two (2 ^ 16) two_at twos
-
-pub four_takes : (least most : ℕ) → Takes four (IsWithin least most) (four_in least most)
-unfolding four_in
-four_takes least most = field_takes Short (λ at n. BadField at) least most four (2 ^ 32) four_at fours
-
-pub eight_takes : (least most : ℕ) → Takes eight (IsWithin least most) (eight_in least most)
-unfolding eight_in
-eight_takes least most = field_takes Short (λ at n. BadField at) least most eight (2 ^ 64) eight_at eights
-
-pub kind_takes : (least most : ℕ) → Takes single (IsWithin least most) (kind_in least most)
-unfolding kind_in
-kind_takes least most = field_takes Short (λ at n. BadKind at) least most single (2 ^ 8) byte_at bytes_are_numbers
 
 pub byte_reads : (least most n : ℕ) → least ≤ n → n ≤ most → most < 2 ^ 8 → Reads Short n (single n) (byte_in least most)
 unfolding byte_in
 byte_reads least most n ge le lt = field_reads Short (λ at n. BadField at) least most single (2 ^ 8) byte_at bytes_are_numbers n ge le lt
 
+pub kind_reads : (least most n : ℕ) → least ≤ n → n ≤ most → most < 2 ^ 8 → Reads Short n (single n) (kind_in least most)
+unfolding kind_in
+kind_reads least most n ge le lt = field_reads Short (λ at n. BadKind at) least most single (2 ^ 8) byte_at bytes_are_numbers n ge le lt
+
+pub kind_takes : (least most : ℕ) → Takes single (IsWithin least most) (kind_in least most)
+unfolding kind_in
+kind_takes least most = field_takes Short (λ at n. BadKind at) least most single (2 ^ 8) byte_at bytes_are_numbers
+
+-- in two bytes
+pub two_takes_in : (least most : ℕ) → Takes two (IsWithin least most) (two_in least most)
+unfolding two_in
+two_takes_in least most = field_takes Short (λ at n. BadField at) least most two (2 ^ 16) two_at twos
+
 pub two_reads_in : (least most n : ℕ) → least ≤ n → n ≤ most → most < 2 ^ 16 → Reads Short n (two n) (two_in least most)
 unfolding two_in
 two_reads_in least most n ge le lt = field_reads Short (λ at n. BadField at) least most two (2 ^ 16) two_at twos n ge le lt
+
+-- in four bytes
+pub four_takes : (least most : ℕ) → Takes four (IsWithin least most) (four_in least most)
+unfolding four_in
+four_takes least most = field_takes Short (λ at n. BadField at) least most four (2 ^ 32) four_at fours
 
 pub four_reads : (least most n : ℕ) → least ≤ n → n ≤ most → most < 2 ^ 32 → Reads Short n (four n) (four_in least most)
 unfolding four_in
 four_reads least most n ge le lt = field_reads Short (λ at n. BadField at) least most four (2 ^ 32) four_at fours n ge le lt
 
-pub eight_reads : (least most n : ℕ) → least ≤ n → n ≤ most → most < 2 ^ 64 → Reads Short n (eight n) (eight_in least most)
-unfolding eight_in
-eight_reads least most n ge le lt = field_reads Short (λ at n. BadField at) least most eight (2 ^ 64) eight_at eights n ge le lt
-
-pub kind_reads : (least most n : ℕ) → least ≤ n → n ≤ most → most < 2 ^ 8 → Reads Short n (single n) (kind_in least most)
-unfolding kind_in
-kind_reads least most n ge le lt = field_reads Short (λ at n. BadKind at) least most single (2 ^ 8) byte_at bytes_are_numbers n ge le lt
-
-pub place_reads : (n : ℕ) → n ≤ 2 ^ 48 → Reads Short n (eight n) (eight_in 0 (2 ^ 48))
-place_reads n le = eight_reads 0 (2 ^ 48) n (omega arith) le (omega arith)
+pub window_reads : (n : ℕ) → n ≤ 1000000 → Reads Short n (four n) (four_in 0 1000000)
+window_reads n le = four_reads 0 1000000 n (omega arith) le (omega arith)
 
 pub slot_reads : (n : ℕ) → n < 1000000 → Reads Short n (four n) (four_in 0 999999)
 slot_reads n lt = four_reads 0 999999 n (omega arith) (omega arith) (omega arith)
@@ -72,8 +67,17 @@ slot_reads n lt = four_reads 0 999999 n (omega arith) (omega arith) (omega arith
 pub ballot_reads : (n : ℕ) → n < 2 ^ 31 → Reads Short n (four n) (four_in 0 2147483647)
 ballot_reads n lt = four_reads 0 2147483647 n (omega arith) (omega arith) (omega arith)
 
-pub window_reads : (n : ℕ) → n ≤ 1000000 → Reads Short n (four n) (four_in 0 1000000)
-window_reads n le = four_reads 0 1000000 n (omega arith) le (omega arith)
+-- in eight bytes
+pub eight_takes : (least most : ℕ) → Takes eight (IsWithin least most) (eight_in least most)
+unfolding eight_in
+eight_takes least most = field_takes Short (λ at n. BadField at) least most eight (2 ^ 64) eight_at eights
+
+pub eight_reads : (least most n : ℕ) → least ≤ n → n ≤ most → most < 2 ^ 64 → Reads Short n (eight n) (eight_in least most)
+unfolding eight_in
+eight_reads least most n ge le lt = field_reads Short (λ at n. BadField at) least most eight (2 ^ 64) eight_at eights n ge le lt
+
+pub place_reads : (n : ℕ) → n ≤ 2 ^ 48 → Reads Short n (eight n) (eight_in 0 (2 ^ 48))
+place_reads n le = eight_reads 0 (2 ^ 48) n (omega arith) le (omega arith)
 
 -- ---- a choice among readers
 

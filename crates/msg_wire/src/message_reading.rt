@@ -29,17 +29,6 @@ pub fn decode(alloc: Global, bytes: &[u8]) -> Result<Message, WireError>
     whole_message(alloc, bytes)
 }
 
-#[tactic(auto, unfolding(crate::specs::Decoding::whole_message))]
-fn whole_message(alloc: Global, bytes: &[u8]) -> Result<Message, WireError>
-    ensures { Gives result (whole_message bytes.now) }
-{
-    let (message, at) = message_at(alloc, bytes, 0)?;
-    if at < bytes.len() {
-        return Err(WireError::Trailing { at });
-    }
-    Ok(message)
-}
-
 #[tactic(auto, unfolding(crate::specs::Decoding::message_at, crate::specs::Decoding::letter_at))]
 fn message_at(alloc: Global, bytes: &[u8], at: usize) -> Read<Message>
     ensures { Gives result (message_at bytes.now at) }
@@ -49,6 +38,17 @@ fn message_at(alloc: Global, bytes: &[u8], at: usize) -> Read<Message>
     let (to, at) = node_at(bytes, at)?;
     let (what, at) = what_at(alloc, bytes, at)?;
     Ok((Message { from, to, what }, at))
+}
+
+#[tactic(auto, unfolding(crate::specs::Decoding::whole_message))]
+fn whole_message(alloc: Global, bytes: &[u8]) -> Result<Message, WireError>
+    ensures { Gives result (whole_message bytes.now) }
+{
+    let (message, at) = message_at(alloc, bytes, 0)?;
+    if at < bytes.len() {
+        return Err(WireError::Trailing { at });
+    }
+    Ok(message)
 }
 
 #[tactic(auto, unfolding(crate::specs::Decoding::node_at))]

@@ -1,5 +1,5 @@
 -- What is read of the columns: the entry at an index, and all that was sent and shown.
-use Rattle.std.proofs.Common.{◌≡◌, ℕ, zero, suc, List, [], ◌∷◌, ◌++◌, length, drop, refl, sym, ap, subst, ◌∙◌, append_assoc, append-nil, arith, Some, None}
+use Rattle.std.proofs.Common.{◌≡◌, ◌≤◌, ℕ, zero, suc, List, [], ◌∷◌, ◌++◌, length, drop, refl, sym, ap, subst, ◌∙◌, append_assoc, append-nil, arith, Some, None}
 use Rattle.std.specs.List.{slice_get, slice_range}
 use Rattle.std.specs.Option.{option_map}
 use Rattle.std.proofs.lemmas.List.{reverse-append}
@@ -74,23 +74,25 @@ shown_first (x ∷ past) e = ap (λ l. l ++ x.marks) (shown_first past e) ∙ ap
 past_first : (e : HistoryEntry) (later : List HistoryEntry) → past_of (e ∷ later) ≡ past_of later ++ e ∷ []
 past_first e later = reverse-append (e ∷ []) later
 
+-- what is read of one more entry and of those after it
+one_more : {X : Type 0} (read : Past → List X) (own : HistoryEntry → List X) → ((past : Past) (e : HistoryEntry) → read (past ++ e ∷ []) ≡ own e ++ read past)
+    → (e : HistoryEntry) (later : List HistoryEntry) (all : List X) (from end : ℕ) → own e ≡ slice_range all from end → from ≤ end
+    → read (past_of later) ≡ drop end all → read (past_of (e ∷ later)) ≡ drop from all
+one_more read own first e later all from end part rise rest =
+    ap read (past_first e later) ∙ first (past_of later) e ∙ ap (λ l. l ++ read (past_of later)) part
+    ∙ ap (λ l. slice_range all from end ++ l) rest ∙ sym (drop_split all from end rise)
+
 sent_from : (c : Columns) (from at : ℕ) (ss : List KeptStep) → AreStepsIn c from at ss → sent (past_of (entries_in c from at ss)) ≡ drop from c.messages
 sent_from c from at [] h = sym (drop_all from c.messages h.0)
 sent_from c from at (s ∷ ss) h =
-    let later = entries_in c s.sends_end s.marks_end ss in
-    ap sent (past_first (entry_in c from at s) later)
-    ∙ sent_first (past_of later) (entry_in c from at s)
-    ∙ ap (λ l. slice_range c.messages from s.sends_end ++ l) (sent_from c s.sends_end s.marks_end ss h.1)
-    ∙ sym (drop_split c.messages from s.sends_end h.0.sends_rise)
+    one_more sent (λ e. e.sends) sent_first (entry_in c from at s) (entries_in c s.sends_end s.marks_end ss) c.messages from s.sends_end refl h.0.sends_rise
+    (sent_from c s.sends_end s.marks_end ss h.1)
 
 shown_from : (c : Columns) (from at : ℕ) (ss : List KeptStep) → AreStepsIn c from at ss → shown (past_of (entries_in c from at ss)) ≡ drop at c.marks
 shown_from c from at [] h = sym (drop_all at c.marks h.1)
 shown_from c from at (s ∷ ss) h =
-    let later = entries_in c s.sends_end s.marks_end ss in
-    ap shown (past_first (entry_in c from at s) later)
-    ∙ shown_first (past_of later) (entry_in c from at s)
-    ∙ ap (λ l. slice_range c.marks at s.marks_end ++ l) (shown_from c s.sends_end s.marks_end ss h.1)
-    ∙ sym (drop_split c.marks at s.marks_end h.0.marks_rise)
+    one_more shown (λ e. e.marks) shown_first (entry_in c from at s) (entries_in c s.sends_end s.marks_end ss) c.marks at s.marks_end refl h.0.marks_rise
+    (shown_from c s.sends_end s.marks_end ss h.1)
 
 pub sent_all : (c : Columns) (history : List HistoryEntry) → IsWhole c → entries_of c ≡ history → c.messages ≡ sent (past_of history)
 sent_all c history w e = sym (sent_from c 0 0 c.steps w) ∙ ap (λ h. sent (past_of h)) e

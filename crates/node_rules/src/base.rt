@@ -39,10 +39,9 @@ pub struct NodeBase {
 
 impl Model for NodeBase {
     ghost use Rattle.node_rules.specs.Bases.{Base};
+    ghost use Rattle.node_rules.specs.inside.Kept.{base_of, IsBaseInside};
 
     ghost Value = { Base };
-
-    ghost use Rattle.node_rules.specs.inside.Kept.{base_of, IsBaseInside};
 
     ghost view = { base_of };
 

@@ -56,23 +56,26 @@ sum_front f (x ∷ xs) a =
     h1 ∙ h3
 
 module _ (past : Past) where
-  submitted_is : (n : ℕ) (clients : List Submitted) → Numbered (λ number. IsSubmitted (nodes.Client number) past) n clients
-      → all_submitted clients ≡ sum_by (count_submitted past) (range_with_len n (length clients))
-  submitted_is n [] h = refl
-  submitted_is n (s ∷ clients) h =
-      let here : length s.bodies ≡ count_submitted past n = ap length h.0.bodies in
-      let rest = submitted_is (n + 1) clients h.1 in
-      let sum = sum_front (count_submitted past) (range_with_len (n + 1) (length clients)) (0 + count_submitted past n) in
-      omega (arith, here, rest, sum)
+  -- a sum over the clients, of what each has, is the sum of what is counted of each
+  total_is : (total : List Submitted → ℕ) (size : Submitted → ℕ) (count : ℕ → ℕ) → total [] ≡ 0
+      → ((s : Submitted) (clients : List Submitted) → total (s ∷ clients) ≡ size s + total clients)
+      → ((number : ℕ) (s : Submitted) → IsSubmitted (nodes.Client number) past s → size s ≡ count number)
+      → (n : ℕ) (clients : List Submitted) → Numbered (λ number. IsSubmitted (nodes.Client number) past) n clients
+      → total clients ≡ sum_by count (range_with_len n (length clients))
+  total_is total size count none more sized n [] h = none
+  total_is total size count none more sized n (s ∷ clients) h =
+      let here : size s ≡ count n = sized n s h.0 in
+      let rest = total_is total size count none more sized (n + 1) clients h.1 in
+      let sum = sum_front count (range_with_len (n + 1) (length clients)) (0 + count n) in
+      omega (arith, more s clients, here, rest, sum)
 
-  acked_is : (n : ℕ) (clients : List Submitted) → Numbered (λ number. IsSubmitted (nodes.Client number) past) n clients
-      → all_acked clients ≡ sum_by (count_acked past) (range_with_len n (length clients))
-  acked_is n [] h = refl
-  acked_is n (s ∷ clients) h =
-      let here : length s.acked ≡ count_acked past n = ap length h.0.acked in
-      let rest = acked_is (n + 1) clients h.1 in
-      let sum = sum_front (count_acked past) (range_with_len (n + 1) (length clients)) (0 + count_acked past n) in
-      omega (arith, here, rest, sum)
+  submitted_is : (clients : List Submitted) → Numbered (λ number. IsSubmitted (nodes.Client number) past) 0 clients
+      → all_submitted clients ≡ sum_by (count_submitted past) (range_with_len 0 (length clients))
+  submitted_is = total_is all_submitted (λ s. length s.bodies) (count_submitted past) refl (λ s clients. refl) (λ number s is. ap length is.bodies) 0
+
+  acked_is : (clients : List Submitted) → Numbered (λ number. IsSubmitted (nodes.Client number) past) 0 clients
+      → all_acked clients ≡ sum_by (count_acked past) (range_with_len 0 (length clients))
+  acked_is = total_is all_acked (λ s. length s.acked) (count_acked past) refl (λ s clients. refl) (λ number s is. ap length is.acked) 0
 
 -- ---- the summary
 
@@ -84,8 +87,8 @@ summed_lines_is cfg quiet history =
     let past : Past = past_of history in
     let g : Gathered = gathered_of cfg history in
     let h : IsGathered cfg past g = IsGathered_all cfg history in
-    let submitted : all_submitted g.clients ≡ over_clients cfg (count_submitted past) = submitted_is past 0 g.clients h.clients ∙ ap (λ count. sum_by (count_submitted past) (range_with_len 0 count)) h.client_count in
-    let acked : all_acked g.clients ≡ over_clients cfg (count_acked past) = acked_is past 0 g.clients h.clients ∙ ap (λ count. sum_by (count_acked past) (range_with_len 0 count)) h.client_count in
+    let submitted : all_submitted g.clients ≡ over_clients cfg (count_submitted past) = submitted_is past g.clients h.clients ∙ ap (λ count. sum_by (count_submitted past) (range_with_len 0 count)) h.client_count in
+    let acked : all_acked g.clients ≡ over_clients cfg (count_acked past) = acked_is past g.clients h.clients ∙ ap (λ count. sum_by (count_acked past) (range_with_len 0 count)) h.client_count in
     let totals : totals_lines (all_submitted g.clients) (all_acked g.clients) ≡ totals_lines (over_clients cfg (count_submitted past)) (over_clients cfg (count_acked past)) = rw (submitted, acked) refl in
     let consumers : numbered_lines (summed_consumer cfg) 0 g.consumers ≡ flat_map (summary_of_consumer cfg past) (range_with_len 0 cfg.consumers) =
     numbered_lines_is (summed_consumer cfg) (summary_of_consumer cfg past) 0 g.consumers (Numbered_weaker (λ number. IsConsumed number past) (λ number c. summed_consumer cfg number c ≡ summary_of_consumer cfg past number) 0 g.consumers (λ m c _ held. summed_consumer_is cfg past m c held) h.consumers)

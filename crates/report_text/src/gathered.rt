@@ -67,26 +67,6 @@ pub fn gather<'a>(
     Ok(gathered)
 }
 
-fn consumers<'a>(alloc: Global, count: u8) -> Result<Vec<ConsumerMarks<'a>>, OutOfMemory>
-    ensures { IfOk result (λ v. v.items ≡ replicate count nothing_consumed) }
-{
-    let mut all = Vec::new(alloc);
-    for _number in 0..count {
-        all.push(ConsumerMarks::new(alloc))?;
-    }
-    Ok(all)
-}
-
-fn clients<'a>(alloc: Global, count: usize) -> Result<Vec<ClientMarks<'a>>, OutOfMemory>
-    ensures { IfOk result (λ v. v.items ≡ replicate count nothing_submitted) }
-{
-    let mut all = Vec::new(alloc);
-    for _number in 0..count {
-        all.push(ClientMarks::new(alloc))?;
-    }
-    Ok(all)
-}
-
 impl<'a> Gathered<'a> {
     /// The entry at an index, where there is one.
     fn take_at(&mut self, history: &'a History, index: usize) -> Put
@@ -137,6 +117,16 @@ impl<'a> Gathered<'a> {
     }
 }
 
+fn consumers<'a>(alloc: Global, count: u8) -> Result<Vec<ConsumerMarks<'a>>, OutOfMemory>
+    ensures { IfOk result (λ v. v.items ≡ replicate count nothing_consumed) }
+{
+    let mut all = Vec::new(alloc);
+    for _number in 0..count {
+        all.push(ConsumerMarks::new(alloc))?;
+    }
+    Ok(all)
+}
+
 fn take_consumer<'a>(consumers: &mut Vec<ConsumerMarks<'a>>, number: u8, marks: &'a [Mark]) -> Put
     ensures { OnOk result (consumers.new.items ≡ changed_at (λ c. with_own_marks number c marks.now) consumers.old.items number) }
 {
@@ -144,6 +134,16 @@ fn take_consumer<'a>(consumers: &mut Vec<ConsumerMarks<'a>>, number: u8, marks: 
         Some(consumer) => consumer.take_all(u64::from(number), marks),
         None => Ok(()),
     }
+}
+
+fn clients<'a>(alloc: Global, count: usize) -> Result<Vec<ClientMarks<'a>>, OutOfMemory>
+    ensures { IfOk result (λ v. v.items ≡ replicate count nothing_submitted) }
+{
+    let mut all = Vec::new(alloc);
+    for _number in 0..count {
+        all.push(ClientMarks::new(alloc))?;
+    }
+    Ok(all)
 }
 
 fn take_client<'a>(clients: &mut Vec<ClientMarks<'a>>, number: usize, entry: &EntryRef<'a>) -> Put

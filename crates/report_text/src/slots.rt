@@ -20,9 +20,7 @@ use std::marker::Model;
 
 /// The entry that was told first as decided, of each slot that was told.
 #[derive(Drop)]
-pub struct ToldSlots<'a> {
-    entries: ByNumber<&'a Entry>,
-}
+pub struct ToldSlots<'a>(ByNumber<&'a Entry>);
 
 impl<'a> Model for ToldSlots<'a> {
     ghost use Rattle.std.specs.Prelude.{ℕ, List, map};
@@ -30,7 +28,7 @@ impl<'a> Model for ToldSlots<'a> {
 
     ghost Value = { List (ℕ × Entry) };
 
-    ghost view = { λ t. map (λ e. (e.0, e.1.now)) t.entries };
+    ghost view = { λ t. map (λ e. (e.0, e.1.now)) t.0 };
 }
 
 impl<'a> ToldSlots<'a> {
@@ -38,9 +36,7 @@ impl<'a> ToldSlots<'a> {
     pub fn new(alloc: Global) -> ToldSlots<'a>
         ensures { result ≡ [] }
     {
-        ToldSlots {
-            entries: ByNumber::new(alloc),
-        }
+        ToldSlots(ByNumber::new(alloc))
     }
 
     /// More messages were sent.
@@ -60,9 +56,9 @@ impl<'a> ToldSlots<'a> {
         ensures { OnOk result (self.new ≡ with_told self.old slot entry.now) }
     {
         let slot = u64::from(slot);
-        match self.entries.get(slot) {
+        match self.0.get(slot) {
             Some(_) => Ok(()),
-            None => self.entries.put(slot, entry),
+            None => self.0.put(slot, entry),
         }
     }
 
@@ -73,7 +69,7 @@ impl<'a> ToldSlots<'a> {
         ensures { OnOk result (text.new ≡ text.old ++ told_lines (agreement_from (first_window cfg.now)) self.now) }
     {
         let mut agreed = Agreed::new(alloc, first(cfg.rounds, &cfg.table))?;
-        let rows = self.entries.rows(alloc)?;
+        let rows = self.0.rows(alloc)?;
         for (number, entry) in rows {
             let slot = number as u32;
             let void = is_void(&mut agreed, slot, entry)?;

@@ -4,11 +4,11 @@ ghost use Rattle.runs.specs.Laws.{OneIsChosen, KnownIsChosen};
 ghost use Rattle.safety_frame.specs.EveryRun.{OfEveryRun};
 ghost use Rattle.safety_agreement.specs.Acceptors.{AcceptorIsItems};
 ghost use Rattle.safety_agreement.specs.Owners.{BallotsHaveOwners};
-ghost use Rattle.safety_agreement.specs.Votes.{OneVotePerBallot, OwnersVoted, AcceptedsAreVotes, PromisesTell, SafeAtBallot};
 ghost use Rattle.safety_agreement.specs.Attempts.{AttemptsAreOfTheNextSlot, AttemptsArePromised, AttemptsAreUnvoted, AttemptsAreVoted};
 ghost use Rattle.safety_agreement.specs.Heard.{AttemptsHavePromises};
 ghost use Rattle.safety_agreement.specs.Decideds.{DecidedsAreKnown};
 ghost use Rattle.safety_agreement.specs.Chosen.{AgreedIsChosen};
+ghost use Rattle.safety_agreement.specs.Votes.{OneVotePerBallot, OwnersVoted, AcceptedsAreVotes, PromisesTell, SafeAtBallot};
 
 /// A slot's acceptor has the greatest ballot of its items, and the vote of the greatest ballot that it cast.
 pub fn acceptor_is_items()

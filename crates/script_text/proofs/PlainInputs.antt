@@ -12,6 +12,7 @@ use Rattle.script_text.specs.Names.commands
 use Rattle.script_text.specs.Words.{is_printable, words_of}
 use Rattle.script_text.specs.Spelled.{SpellsNumber, SpellsRow, SpellsSubmit, SpellsInput}
 use Rattle.script_text.specs.Scripts.{IsSpellable}
+use Rattle.script_text.specs.Lines.{counts}
 use Rattle.script_text.proofs.RowLemmas.{and_left, and_right}
 use Rattle.script_text.proofs.NodeLemmas.{valid_node, sequencer_node}
 use Rattle.script_text.proofs.PlainWords.{IsPlainWord, sentence, words_of_sentence, printable_append, printable_sentence, plain_decimal, spelled_decimal, plain_name, row_word, plain_row, spelled_row}
@@ -87,6 +88,11 @@ pub submit_printable : (by : ℕ) (body : List ℕ) → by < 10 ^ 18 → is_prin
 submit_printable by body h s =
     printable_append (codes "submit") (32 ∷ (decimal by ++ 32 ∷ body)) refl (printable_append (decimal by) (32 ∷ body) (plain_decimal by h).printable s)
 
+-- a line that its words spell
+words_line : (i : Input) (words : List (List ℕ)) → AllByRecursion IsPlainWord words → counts (sentence words) ≡ true
+    → (words_of (sentence words) ≡ words → SpellsInput (sentence words) i) → IsLineOf SpellsInput (sentence words) i
+words_line i words plain counted spelled = record { printable = printable_sentence words plain; counted = counted; spelled = spelled (words_of_sentence words plain) }
+
 pub input_line : (c : Config) → IsValidConfig c → (i : Input) → IsInputOf c i → IsSpellable i → IsLineOf SpellsInput (input_text i) i
 input_line c v (inputs.Submit client body) h s =
     let small : client < 10 ^ 18 = omega (arith, h.0, v.most_clients) in
@@ -102,19 +108,9 @@ input_line c v (inputs.Lose number) h s = record {
   spelled = number_line (codes "lose") number lose_word s;
 }
 input_line c v (inputs.Tick node) h s =
-    let name = plain_name node (valid_node c node v h) in
-    record {
-      printable = printable_sentence (codes "tick" ∷ node_name node ∷ []) (tick_word, (name, tt));
-      counted = refl;
-      spelled = words_of_sentence (codes "tick" ∷ node_name node ∷ []) (tick_word, (name, tt));
-    }
+    words_line (inputs.Tick node) (codes "tick" ∷ node_name node ∷ []) (tick_word, (plain_name node (valid_node c node v h), tt)) refl (λ e. e)
 input_line c v (inputs.Restart node) h s =
-    let name = plain_name node (valid_node c node v h) in
-    record {
-      printable = printable_sentence (codes "restart" ∷ node_name node ∷ []) (restart_word, (name, tt));
-      counted = refl;
-      spelled = words_of_sentence (codes "restart" ∷ node_name node ∷ []) (restart_word, (name, tt));
-    }
+    words_line (inputs.Restart node) (codes "restart" ∷ node_name node ∷ []) (restart_word, (plain_name node (valid_node c node v h), tt)) refl (λ e. e)
 input_line c v (inputs.Command node (commands.Table rounds rows)) h s =
     let name = plain_name node (valid_node c node v (sequencer_node c node h.0)) in
     let few : rounds < 10 ^ 18 = omega (arith, h.1.0.1) in

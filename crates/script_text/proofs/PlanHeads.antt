@@ -54,10 +54,10 @@ few_of_back limit words ns z h few =
     rw fits (each_back (number_below limit) (SpellsBelow limit) (λ word n s. number_below_back limit word n s.0 s.1) words ns (together limit words ns z h))
 
 -- a line of the due word and a few numbers
-abbrev few_line : List ℕ → ℕ → List ℕ → Judged (List ℕ)
+abbrev pub few_line : List ℕ → ℕ → List ℕ → Judged (List ℕ)
 few_line due limit line = due_in due line >>= λ words. few_of limit words
 
-few_line_ok : (due : List ℕ) (limit : ℕ) (line ns : List ℕ) → few_line due limit line ≡ Ok ns
+pub few_line_ok : (due : List ℕ) (limit : ℕ) (line ns : List ℕ) → few_line due limit line ≡ Ok ns
     → IsTrue (is_printable line) × SpellsNumbers due (words_of line) ns × AreBelow limit ns × (length ns ≤ 8)
 few_line_ok due limit line ns e =
     let a = bind_ok (due_in due line) (λ words. few_of limit words) ns e in
@@ -69,20 +69,10 @@ few_line_back : (due : List ℕ) (limit : ℕ) (line ns : List ℕ) → IsTrue (
     → length ns ≤ 8 → few_line due limit line ≡ Ok ns
 few_line_back due limit line ns p s h few = rw (due_in_back due line s.0 p s.1) (few_of_back limit s.0 ns s.2 h few)
 
-pub readers_in_ok : (limit : ℕ) (line ns : List ℕ) → readers_in limit line ≡ Ok ns
-    → IsTrue (is_printable line) × SpellsNumbers (codes "readers") (words_of line) ns × AreBelow limit ns × (length ns ≤ 8)
-unfolding readers_in
-readers_in_ok limit line ns e = few_line_ok (codes "readers") limit line ns e
-
 pub readers_in_back : (limit : ℕ) (line ns : List ℕ) → IsTrue (is_printable line) → SpellsNumbers (codes "readers") (words_of line) ns → AreBelow limit ns
     → length ns ≤ 8 → readers_in limit line ≡ Ok ns
 unfolding readers_in
 readers_in_back limit line ns p s h few = few_line_back (codes "readers") limit line ns p s h few
-
-pub submitters_in_ok : (limit : ℕ) (line ns : List ℕ) → submitters_in limit line ≡ Ok ns
-    → IsTrue (is_printable line) × SpellsNumbers (codes "submitters") (words_of line) ns × AreBelow limit ns × (length ns ≤ 8)
-unfolding submitters_in
-submitters_in_ok limit line ns e = few_line_ok (codes "submitters") limit line ns e
 
 pub submitters_in_back : (limit : ℕ) (line ns : List ℕ) → IsTrue (is_printable line) → SpellsNumbers (codes "submitters") (words_of line) ns → AreBelow limit ns
     → length ns ≤ 8 → submitters_in limit line ≡ Ok ns

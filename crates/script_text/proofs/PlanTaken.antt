@@ -1,5 +1,5 @@
 -- What whole plans spell, and what is judged of them.
-use Rattle.std.proofs.Common.{◌≡◌, ℕ, zero, suc, ◌+◌, ◌≤◌, false, nat_lt, List, [], ◌∷◌, length, map, take, drop, Result, Ok, Err, IfOk, refl, sym, ap, subst, ◌∙◌, inl, inr, arith}
+use Rattle.std.proofs.Common.{◌≡◌, ℕ, zero, suc, ◌+◌, ◌≤◌, false, nat_lt, List, [], ◌∷◌, length, map, take, drop, codes, Result, Ok, Err, IfOk, refl, sym, ap, subst, ◌∙◌, inl, inr, arith}
 use Rattle.std.specs.List.{AllByRecursion, AllZip}
 use Rattle.std.proofs.lemmas.Bool.Decides.{nat_tests}
 use Rattle.record_codec.specs.Reading.{◌>>=◌}
@@ -20,7 +20,7 @@ use Rattle.script_text.specs.ReadingPlans.{by_grammar, headed, plan_head_in, wit
 use Rattle.script_text.specs.Answers.{Gives}
 use Rattle.script_text.proofs.HeadLemmas.{IsPlain, due_line_ok, head_in_ok, head_in_back}
 use Rattle.script_text.proofs.ScriptLemmas.{plain_joined, plain_front, plain_rest}
-use Rattle.script_text.proofs.PlanHeads.{AreBelow, readers_in_ok, readers_in_back, submitters_in_ok, submitters_in_back, faults_in_ok, faults_in_back, limits_in_ok, limits_in_back}
+use Rattle.script_text.proofs.PlanHeads.{AreBelow, few_line_ok, readers_in_back, submitters_in_back, faults_in_ok, faults_in_back, limits_in_ok, limits_in_back}
 use Rattle.script_text.proofs.PlanLines.{plan_line_in_ok, plan_line_in_back}
 
 abbrev pub with_lines : Plan → List PlanLine → Plan
@@ -64,9 +64,10 @@ from_readers end c lines = due_line end (readers_in c.consumers) lines >>= λ x.
 four_lines : (c : Config) (l1 l2 l3 l4 : Line) (rest : List Line) (readers submitters : List ℕ) (f : Faults) (limits : ℕ × ℕ)
     → readers_in c.consumers l1.bytes ≡ Ok readers → submitters_in (length c.homes) l2.bytes ≡ Ok submitters → faults_in l3.bytes ≡ Ok f
     → limits_in l4.bytes ≡ Ok limits → HasRest (l1 ∷ l2 ∷ l3 ∷ l4 ∷ rest) (headed c readers submitters f limits) rest
+unfolding readers_in submitters_in
 four_lines c l1 l2 l3 l4 rest readers submitters f limits e1 e2 e3 e4 =
-    let h1 = readers_in_ok c.consumers l1.bytes readers e1 in
-    let h2 = submitters_in_ok (length c.homes) l2.bytes submitters e2 in
+    let h1 = few_line_ok (codes "readers") c.consumers l1.bytes readers e1 in
+    let h2 = few_line_ok (codes "submitters") (length c.homes) l2.bytes submitters e2 in
     let h3 = faults_in_ok l3.bytes f e3 in
     let h4 = limits_in_ok l4.bytes limits e4 in
     record {

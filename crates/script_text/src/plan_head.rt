@@ -47,16 +47,6 @@ pub(crate) fn readers_line(alloc: Global, line: &[u8], consumers: u8) -> Result<
     few(alloc, rest, consumers)
 }
 
-/// `submitters c ..`: the client of each submitter.
-#[tactic(auto, unfolding(crate::specs::JudgedPlans::submitters_in))]
-pub(crate) fn submitters_line(alloc: Global, line: &[u8], clients: u8) -> Result<Homes, LineError>
-    ensures judged { Says result (submitters_in clients line.now) }
-    ensures few { IfOk result (λ submitters. length submitters ≤ 8) }
-{
-    let rest = after_due(line, b"submitters")?;
-    few(alloc, rest, clients)
-}
-
 /// At most eight numbers, each below a limit.
 #[tactic(auto, unfolding(crate::specs::JudgedPlans::few_of))]
 fn few(alloc: Global, rest: &[u8], limit: u8) -> Result<Homes, LineError>
@@ -67,6 +57,16 @@ fn few(alloc: Global, rest: &[u8], limit: u8) -> Result<Homes, LineError>
         return Err(LineError::Refused(ScriptKind::Word));
     }
     each_below(alloc, rest, limit)
+}
+
+/// `submitters c ..`: the client of each submitter.
+#[tactic(auto, unfolding(crate::specs::JudgedPlans::submitters_in))]
+pub(crate) fn submitters_line(alloc: Global, line: &[u8], clients: u8) -> Result<Homes, LineError>
+    ensures judged { Says result (submitters_in clients line.now) }
+    ensures few { IfOk result (λ submitters. length submitters ≤ 8) }
+{
+    let rest = after_due(line, b"submitters")?;
+    few(alloc, rest, clients)
 }
 
 fn each_below(alloc: Global, line: &[u8], limit: u8) -> Result<Homes, LineError>

@@ -14,9 +14,6 @@ use crate::words::{is_printable, next_word, only_word};
 use msg_wire::{Config, Plan, PlanLine};
 use std::alloc::Global;
 
-/// The most turns of an episode.
-const MOST_TURNS: u64 = 2_000;
-
 /// What a line says, of a plan whose head is known. With `plain` the line is known to be printable.
 #[tactic(auto, unfolding(crate::specs::JudgedPlans::plan_line_in))]
 pub(crate) fn plan_line(
@@ -76,6 +73,9 @@ fn form(
     }
     Err(LineError::Refused(ScriptKind::Word))
 }
+
+/// The most turns of an episode.
+const MOST_TURNS: u64 = 2_000;
 
 /// `episode TURNS`.
 #[tactic(auto, unfolding(crate::specs::JudgedPlans::episode_of))]

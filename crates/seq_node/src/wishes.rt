@@ -9,9 +9,7 @@ use std::marker::Model;
 
 /// What a sequencer is told to propose, the oldest first. Contracts see it as the list of the commands.
 #[derive(Debug, Drop)]
-pub struct Wishes {
-    commands: VecDeque<Command>,
-}
+pub struct Wishes(VecDeque<Command>);
 
 impl Model for Wishes {
     ghost use Rattle.std.specs.Prelude.{List};
@@ -19,7 +17,7 @@ impl Model for Wishes {
 
     ghost Value = { List Command };
 
-    ghost view = { λ w. w.commands.items };
+    ghost view = { λ w. w.0.items };
 }
 
 impl Wishes {
@@ -27,29 +25,27 @@ impl Wishes {
     pub fn new(alloc: Global) -> Wishes
         ensures { result ≡ [] }
     {
-        Wishes {
-            commands: VecDeque::new(alloc),
-        }
+        Wishes(VecDeque::new(alloc))
     }
 
     pub fn len(&self) -> usize
         ensures { result ≡ length self.now }
     {
-        self.commands.len()
+        self.0.len()
     }
 
     /// The oldest wish.
     pub fn first(&self) -> Option<&Command>
         ensures { option_copied result ≡ slice_get self.now 0 }
     {
-        self.commands.front()
+        self.0.front()
     }
 
     /// Puts a wish last.
     pub fn push(&mut self, command: Command) -> Result<(), OutOfMemory>
         ensures { OnOk result (self.new ≡ self.old ++ command ∷ []) }
     {
-        self.commands.push_back(command)?;
+        self.0.push_back(command)?;
         Ok(())
     }
 
@@ -57,13 +53,13 @@ impl Wishes {
     pub fn drop_first(&mut self)
         ensures { self.new ≡ drop 1 self.old }
     {
-        let _dropped = self.commands.pop_front();
+        let _dropped = self.0.pop_front();
     }
 
     /// Drops all.
     pub fn clear(&mut self)
         ensures { self.new ≡ [] }
     {
-        self.commands.clear();
+        self.0.clear();
     }
 }

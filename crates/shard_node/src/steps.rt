@@ -34,6 +34,16 @@ pub fn react(replica: &mut Replica, event: &Event, out: &mut Step) -> Done
     }
 }
 
+/// The step of a tick.
+fn tick(replica: &mut Replica, out: &mut Step) -> Done
+    requires sound { IsReplica replica.old }
+    requires empty { out.old ≡ empty_step }
+    ensures { OnOk result (turn_of replica.new out.new ≡ replica_step replica.old events.Tick) }
+{
+    on_tick(replica, out)?;
+    promise_all(replica, out)
+}
+
 /// The step of a message that comes.
 pub fn deliver(replica: &mut Replica, message: &Message, out: &mut Step) -> Done
     requires sound { IsReplica replica.old }
@@ -42,16 +52,6 @@ pub fn deliver(replica: &mut Replica, message: &Message, out: &mut Step) -> Done
     ensures { OnOk result (turn_of replica.new out.new ≡ replica_step replica.old (events.Deliver message.now)) }
 {
     replica.heed(message, out)?;
-    promise_all(replica, out)
-}
-
-/// The step of a tick.
-fn tick(replica: &mut Replica, out: &mut Step) -> Done
-    requires sound { IsReplica replica.old }
-    requires empty { out.old ≡ empty_step }
-    ensures { OnOk result (turn_of replica.new out.new ≡ replica_step replica.old events.Tick) }
-{
-    on_tick(replica, out)?;
     promise_all(replica, out)
 }
 

@@ -10,9 +10,9 @@ use std::marker::Model;
 /// Which calls of an object in memory fail: their numbers, counted from 0.
 #[derive(Debug, Drop)]
 pub struct FailPlan {
-    fails: Vec<u64>,
     calls: u64,
     faults: u64,
+    fails: Vec<u64>,
 }
 
 impl Model for FailPlan {
@@ -28,9 +28,9 @@ impl FailPlan {
         ensures { IfOk result (λ plan. plan ≡ fresh_plan fails.now) }
     {
         Ok(FailPlan {
-            fails: Vec::from_slice(alloc, fails)?,
             calls: 0,
             faults: 0,
+            fails: Vec::from_slice(alloc, fails)?,
         })
     }
 

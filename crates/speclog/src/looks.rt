@@ -6,6 +6,8 @@ use record_codec::Shown;
 /// A consumer as it was after some of its marks.
 #[derive(Clone, Debug, Drop, PartialEq)]
 pub struct Look {
+    /// Its application's state.
+    pub shown: Shown,
     /// How many marks the consumer had made.
     pub ops: u64,
     /// How many of them were notices of a removal.
@@ -14,8 +16,6 @@ pub struct Look {
     pub applied: u64,
     /// How many of them were confirmed.
     pub confirmed: u64,
-    /// Its application's state.
-    pub shown: Shown,
 }
 
 /// Looks in the order in which they were made.

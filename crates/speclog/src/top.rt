@@ -115,13 +115,13 @@ pub fn top_play<S: Source, K: Sink>(
     ensures usage { usage_of result.fault ≡ play_place (map string_bytes words.now) }
     ensures unread { IsSome (usage_of result.fault) → source.new ≡ source.old }
     ensures unwritten { IsTrue (is_unwritten result.fault) → sink.new ≡ sink.old }
+    ensures answer { SpeaksOf (S.left source.old) (S.left source.new) (K.taken sink.old) (K.taken sink.new) result.fault result.history }
+    ensures safe { IfSome result.history (λ history. (read : List ℕ) × (cfg : Config) × (inputs : List Input) × (numbers : List ℕ) × (S.left source.old ≡ prepend_known read (S.left source.new)) × SpellsScript read cfg inputs numbers × (history ≡ history_of cfg inputs) × IsRun cfg history × IsSafe cfg (past_of history) × CutsAreTrue cfg (past_of history) × IsEager cfg (past_of history) × BeginsToWrite (K.taken sink.old) (K.taken sink.new) (report_of cfg history)) }
+    ensures played { IsPlayedWhole (map string_bytes words.now) (S.left source.old) result.fault (Rose (S.faults source.old) (S.faults source.new)) (Rose (K.faults sink.old) (K.faults sink.new)) }
     ensures source_count { CountsBlame (is_read_fault result.fault) (S.faults source.old) (S.faults source.new) }
     ensures sink_count { CountsBlame (is_write_fault result.fault) (K.faults sink.old) (K.faults sink.new) }
     ensures read_fault { result.fault ≡ Some Fault.ReadFault → Rose (S.faults source.old) (S.faults source.new) }
     ensures write_fault { result.fault ≡ Some Fault.WriteFault → Rose (K.faults sink.old) (K.faults sink.new) }
-    ensures answer { SpeaksOf (S.left source.old) (S.left source.new) (K.taken sink.old) (K.taken sink.new) result.fault result.history }
-    ensures safe { IfSome result.history (λ history. (read : List ℕ) × (cfg : Config) × (inputs : List Input) × (numbers : List ℕ) × (S.left source.old ≡ prepend_known read (S.left source.new)) × SpellsScript read cfg inputs numbers × (history ≡ history_of cfg inputs) × IsRun cfg history × IsSafe cfg (past_of history) × CutsAreTrue cfg (past_of history) × IsEager cfg (past_of history) × BeginsToWrite (K.taken sink.old) (K.taken sink.new) (report_of cfg history)) }
-    ensures played { IsPlayedWhole (map string_bytes words.now) (S.left source.old) result.fault (Rose (S.faults source.old) (S.faults source.new)) (Rose (K.faults sink.old) (K.faults sink.new)) }
 {
     if let Some(word) = misplaced(words) {
         return Outcome::refused(alloc, Fault::Usage { word });
