@@ -1,3 +1,4 @@
+pub mod AllNames
 pub mod Distinct
 pub mod Draining
 pub mod Faults

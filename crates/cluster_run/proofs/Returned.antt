@@ -1,12 +1,10 @@
 -- What a run has made once all disks are back: of the shelf, whatever ended it, and of the journals.
-use Rattle.std.proofs.Common.{◌≡◌, inl, inr, ℕ, List, [], ◌∷◌, length, Option, Some, Result, IfErr, refl, sym, ap, ◌∙◌, subst}
-use Rattle.std.specs.List.{AllByRecursion}
+use Rattle.std.proofs.Common.{◌≡◌, inl, inr, ℕ, List, length, Option, Some, Result, IfErr, sym, ap, ◌∙◌, subst}
 use Rattle.std.specs.Result.{IsErrAnd}
 use Rattle.std.proofs.lemmas.List.{length-map}
 use Rattle.std.proofs.lemmas.Result.{err_from_is_err_and}
 use Rattle.spec_base.specs.declared.disk.Disk.{Ghosts as DiskRules}
 use Rattle.spec_base.specs.declared.node.NodeId.{NodeId}
-use Rattle.spec_base.specs.Spelling.{node_name}
 use Rattle.gate_vault.specs.declared.vault.Vault.{Vault}
 use Rattle.msg_wire.specs.declared.plan.Plan.{Plan}
 use Rattle.msg_wire.specs.Nodes.{nodes_of}
@@ -47,21 +45,25 @@ module _ {N D : Type 0} (rules : NodeRules N) (disk : DiskRules D) (plan : Plan)
       let taken : length disks ≡ length ran.actors = ap length ran.disks_are ∙ length-map ran.actors (λ a. disk_in a.core.store) in
       sym seats ∙ actors ∙ sym taken
 
-  module _ (old out back : List ℕ → Sight D) (made : EachWith (IsOutAs disk.faults) old out (nodes_of plan.cfg) vaults)
-      (came : EachWith (IsBackAs disk.faults disk.in_a_row) out back (nodes_of plan.cfg) disks) where
+  -- the disks went out at the nodes' names, and came back there
+  module _ (names : List NodeId) (same : names ≡ nodes_of plan.cfg) (old out back : List ℕ → Sight D)
+      (made : EachWith (IsOutAs disk.faults) old out names vaults) (came : EachWith (IsBackAs disk.faults disk.in_a_row) out back names disks) where
     came_all : EachWith (IsBackAs disk.faults disk.in_a_row) out back (nodes_of plan.cfg) (disks_of ran.actors)
-    came_all = subst (EachWith (IsBackAs disk.faults disk.in_a_row) out back (nodes_of plan.cfg)) ran.disks_are came
+    came_all =
+        subst (λ l. EachWith (IsBackAs disk.faults disk.in_a_row) out back l (disks_of ran.actors)) same
+        (subst (EachWith (IsBackAs disk.faults disk.in_a_row) out back names) ran.disks_are came)
 
     pub back_on : AreOn back (nodes_of plan.cfg)
-    back_on = all_on disk.faults disk.in_a_row out back (nodes_of plan.cfg) disks came
+    back_on = all_on disk.faults disk.in_a_row out back (nodes_of plan.cfg) (disks_of ran.actors) came_all
 
     pub back_with_entries : AllHaveEntries disk.seen (nodes_of plan.cfg) back
     back_with_entries = all_have_entries rules disk (nodes_of plan.cfg) ran.seats ran.actors out back ran.seated came_all
 
     pub back_with_fault : (error : RunError) → stop ≡ Some error → IsRunFault disk.faults (nodes_of plan.cfg) old back error
     back_with_fault error is =
+        let made_all = subst (λ l. EachWith (IsOutAs disk.faults) old out l vaults) same made in
         elim (ran.ended.cause error is) [
-          | inl first ↦ stop_is_fault rules disk (nodes_of plan.cfg) vaults ran.seats ran.actors old out back error ran.of ran.seated made came_all first
+          | inl first ↦ stop_is_fault rules disk (nodes_of plan.cfg) vaults ran.seats ran.actors old out back error ran.of ran.seated made_all came_all first
           | inr none ↦ subst (IsRunFault disk.faults (nodes_of plan.cfg) old back) (sym none) tt
         ]
 
@@ -71,9 +73,3 @@ pub memory_at_error : {T D : Type 0} (faults : D → ℕ) (nodes : List NodeId) 
 memory_at_error faults nodes old new answer is =
     let p = err_from_is_err_and answer is in
     subst (λ r. IfErr r (IsRunFault faults nodes old new)) (sym p.1) (subst (IsRunFault faults nodes old new) (sym p.2) tt)
-
--- a shelf that nobody touched
-pub all_as_before : {D : Type 0} (now : List ℕ → Sight D) (nodes : List NodeId)
-    → AllByRecursion (λ (node : NodeId). now (node_name node) ≡ now (node_name node)) nodes
-all_as_before now [] = tt
-all_as_before now (node ∷ nodes) = (refl, all_as_before now nodes)

@@ -1,5 +1,7 @@
 //! A gate at which the actors of the plan of two records meet before each of their turns.
 
+ghost use Rattle.std.specs.Prelude.{◌<◌, IfSome};
+
 use cluster_users::{Actor, Gate};
 use spec_base::{NodeId, Side};
 use std::sync::atomic::{AtomicU64, Ordering};
@@ -18,7 +20,9 @@ pub(super) struct Meeting {
 }
 
 /// The place of an actor; None of one that has no part in the plan.
-fn place_of(actor: Actor) -> Option<usize> {
+fn place_of(actor: Actor) -> Option<usize>
+    ensures { IfSome result (λ place. place < 7) }
+{
     match actor {
         Actor::Node {
             node: NodeId::Seq(0),

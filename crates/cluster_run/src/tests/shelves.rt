@@ -1,6 +1,6 @@
 //! Runs on shelves in memory, of which a node's disk fails at some calls.
 
-ghost use Rattle.std.specs.Prelude.{◌≡◌, ℕ, List, None, false, IfOk, OnOk};
+ghost use Rattle.std.specs.Prelude.{◌≡◌, ℕ, List, None, false, IfOk};
 ghost use Rattle.msg_wire.specs.Valid.{IsValidPlan};
 ghost use Rattle.spec_base.specs.MemShelf.{is_out_of, kept_of};
 
@@ -50,7 +50,6 @@ pub(super) fn run_on<R: Threads + Wait + Sync, G: Gate + Sync>(
 /// The entries that the vault at a name keeps.
 pub(super) fn entries_at(alloc: Global, shelf: &mut MemShelf, name: &str) -> Result<Entries, Fail>
     requires { (name : List ℕ) → is_out_of shelf.old name ≡ false }
-    ensures { OnOk result ((name : List ℕ) → is_out_of shelf.new name ≡ false) }
 {
     let disk = shelf.disk(name)?;
     match Vault::load(alloc, disk) {

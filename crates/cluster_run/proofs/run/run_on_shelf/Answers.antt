@@ -3,7 +3,7 @@ use Rattle.std.specs.List.{AllByRecursion}
 use Rattle.world.specs.contracts.any_node.AnyNodeNodeModel.TheImpl.{ghosts as any_rules}
 use Rattle.msg_wire.specs.Nodes.{nodes_of}
 use Rattle.spec_base.specs.Spelling.{IsValidNode}
-use Rattle.shelf_vaults.specs.Sights.{sight, EachWith, HaveOwnNames, IsBackAs, IsFaultAmong, IsNameOfNone, IsOutAs}
+use Rattle.shelf_vaults.specs.Sights.{sight, HaveOwnNames, IsFaultAmong, IsNameOfNone}
 use Rattle.cluster_run.specs.Running.{HaveRun}
 use Rattle.cluster_run.proofs.Distinct.{nodes_have_own_names}
 use Rattle.cluster_run.proofs.Returned.{back_on, back_with_entries, back_with_fault, disk_each, fault_at_error}
@@ -69,32 +69,21 @@ returns-in-Some-clause-others g c = λ name none.
 pub returns-in-Some-clause-back : goal.returns-in-Some-clause-back
 returns-in-Some-clause-back g c =
     let told = sight g.H.Shelf.faults g.H.Shelf.in_a_row g.H.Shelf.is_out g.H.Shelf.given g.H.Shelf.kept in
-    let made = subst (λ l. EachWith (IsOutAs g.H.D.Disk.faults) (told c.args.shelf.now) (told c.format_all.new.shelf) l c.in_ok-vaults.vaults.items)
-    c.requires.names c.in_ok-vaults.ensures.out in
-    let came = subst (λ l. EachWith (IsBackAs g.H.D.Disk.faults g.H.D.Disk.in_a_row) (told c.format_all.new.shelf) (told c.give_back.new.shelf) l
-    c.run_nodes-ran.result.disks.items) c.requires.names c.give_back.ensures.back in
-    back_on any_rules g.H.D.Disk c.args.plan.now _ _ _ _ c.run_nodes-ran.ensures.ran (told c.args.shelf.now) (told c.format_all.new.shelf)
-    (told c.give_back.new.shelf) made came
+    back_on any_rules g.H.D.Disk c.args.plan.now _ _ _ _ c.run_nodes-ran.ensures.ran c.args.names.now c.requires.names
+    (told c.args.shelf.now) (told c.format_all.new.shelf) (told c.give_back.new.shelf) c.in_ok-vaults.ensures.out c.give_back.ensures.back
 
 pub returns-in-Some-clause-leaves : goal.returns-in-Some-clause-leaves
 returns-in-Some-clause-leaves g c =
     let told = sight g.H.Shelf.faults g.H.Shelf.in_a_row g.H.Shelf.is_out g.H.Shelf.given g.H.Shelf.kept in
-    let made = subst (λ l. EachWith (IsOutAs g.H.D.Disk.faults) (told c.args.shelf.now) (told c.format_all.new.shelf) l c.in_ok-vaults.vaults.items)
-    c.requires.names c.in_ok-vaults.ensures.out in
-    let came = subst (λ l. EachWith (IsBackAs g.H.D.Disk.faults g.H.D.Disk.in_a_row) (told c.format_all.new.shelf) (told c.give_back.new.shelf) l
-    c.run_nodes-ran.result.disks.items) c.requires.names c.give_back.ensures.back in
-    inr (inr (back_with_entries any_rules g.H.D.Disk c.args.plan.now _ _ _ _ c.run_nodes-ran.ensures.ran (told c.args.shelf.now)
-    (told c.format_all.new.shelf) (told c.give_back.new.shelf) made came))
+    inr (inr (back_with_entries any_rules g.H.D.Disk c.args.plan.now _ _ _ _ c.run_nodes-ran.ensures.ran c.args.names.now c.requires.names
+    (told c.args.shelf.now) (told c.format_all.new.shelf) (told c.give_back.new.shelf) c.in_ok-vaults.ensures.out c.give_back.ensures.back))
 
 pub returns-in-Some-clause-fault : goal.returns-in-Some-clause-fault
 returns-in-Some-clause-fault g c =
     let told = sight g.H.Shelf.faults g.H.Shelf.in_a_row g.H.Shelf.is_out g.H.Shelf.given g.H.Shelf.kept in
-    let made = subst (λ l. EachWith (IsOutAs g.H.D.Disk.faults) (told c.args.shelf.now) (told c.format_all.new.shelf) l c.in_ok-vaults.vaults.items)
-    c.requires.names c.in_ok-vaults.ensures.out in
-    let came = subst (λ l. EachWith (IsBackAs g.H.D.Disk.faults g.H.D.Disk.in_a_row) (told c.format_all.new.shelf) (told c.give_back.new.shelf) l
-    c.run_nodes-ran.result.disks.items) c.requires.names c.give_back.ensures.back in
-    back_with_fault any_rules g.H.D.Disk c.args.plan.now _ _ _ _ c.run_nodes-ran.ensures.ran (told c.args.shelf.now) (told c.format_all.new.shelf)
-    (told c.give_back.new.shelf) made came c.in-Some.error c.in-Some.is
+    back_with_fault any_rules g.H.D.Disk c.args.plan.now _ _ _ _ c.run_nodes-ran.ensures.ran c.args.names.now c.requires.names
+    (told c.args.shelf.now) (told c.format_all.new.shelf) (told c.give_back.new.shelf) c.in_ok-vaults.ensures.out c.give_back.ensures.back
+    c.in-Some.error c.in-Some.is
 
 -- ---- where all went on
 
@@ -115,19 +104,11 @@ returns-in-None-clause-others g c = λ name none.
 pub returns-in-None-clause-back : goal.returns-in-None-clause-back
 returns-in-None-clause-back g c =
     let told = sight g.H.Shelf.faults g.H.Shelf.in_a_row g.H.Shelf.is_out g.H.Shelf.given g.H.Shelf.kept in
-    let made = subst (λ l. EachWith (IsOutAs g.H.D.Disk.faults) (told c.args.shelf.now) (told c.format_all.new.shelf) l c.in_ok-vaults.vaults.items)
-    c.requires.names c.in_ok-vaults.ensures.out in
-    let came = subst (λ l. EachWith (IsBackAs g.H.D.Disk.faults g.H.D.Disk.in_a_row) (told c.format_all.new.shelf) (told c.give_back.new.shelf) l
-    c.run_nodes-ran.result.disks.items) c.requires.names c.give_back.ensures.back in
-    back_on any_rules g.H.D.Disk c.args.plan.now _ _ _ _ c.run_nodes-ran.ensures.ran (told c.args.shelf.now) (told c.format_all.new.shelf)
-    (told c.give_back.new.shelf) made came
+    back_on any_rules g.H.D.Disk c.args.plan.now _ _ _ _ c.run_nodes-ran.ensures.ran c.args.names.now c.requires.names
+    (told c.args.shelf.now) (told c.format_all.new.shelf) (told c.give_back.new.shelf) c.in_ok-vaults.ensures.out c.give_back.ensures.back
 
 pub returns-in-None-clause-stored : goal.returns-in-None-clause-stored
 returns-in-None-clause-stored g c =
     let told = sight g.H.Shelf.faults g.H.Shelf.in_a_row g.H.Shelf.is_out g.H.Shelf.given g.H.Shelf.kept in
-    let made = subst (λ l. EachWith (IsOutAs g.H.D.Disk.faults) (told c.args.shelf.now) (told c.format_all.new.shelf) l c.in_ok-vaults.vaults.items)
-    c.requires.names c.in_ok-vaults.ensures.out in
-    let came = subst (λ l. EachWith (IsBackAs g.H.D.Disk.faults g.H.D.Disk.in_a_row) (told c.format_all.new.shelf) (told c.give_back.new.shelf) l
-    c.run_nodes-ran.result.disks.items) c.requires.names c.give_back.ensures.back in
-    back_with_entries any_rules g.H.D.Disk c.args.plan.now _ _ _ _ c.run_nodes-ran.ensures.ran (told c.args.shelf.now)
-    (told c.format_all.new.shelf) (told c.give_back.new.shelf) made came
+    back_with_entries any_rules g.H.D.Disk c.args.plan.now _ _ _ _ c.run_nodes-ran.ensures.ran c.args.names.now c.requires.names
+    (told c.args.shelf.now) (told c.format_all.new.shelf) (told c.give_back.new.shelf) c.in_ok-vaults.ensures.out c.give_back.ensures.back
