@@ -1,5 +1,5 @@
 #!/usr/bin/env python3
-"""Makes large scripts, plays them with the program as it is built, and prints instructions, times, memory and page faults.
+"""Makes large scripts and plans, plays and runs them with the program as it is built, and prints instructions, times, memory and page faults.
 
     scripts/performance.py PROGRAM [FOLDER]
 
@@ -7,7 +7,8 @@ PROGRAM is crates/speclog/out/speclog after a build; the scripts are left in FOL
 those that `valgrind --tool=callgrind` counts, the same at each run ('-' where valgrind is not here). A time is the least of
 21 runs, memory the resident size at its greatest, faults the least minor page faults of one. Behind instructions and
 memory stands their ratio to those of a plain model of the same protocol without any proof (PLAIN), which were measured once
-with the same scripts.
+with the same scripts and plans. It takes a plan's turns on one thread; the instructions of `run` are those of all its threads, which differ a
+little at each run.
 """
 import fcntl
 import os
@@ -31,6 +32,8 @@ PLAIN = {
     "tenth": (17.5, 5.4),
     "restarts_k0": (182, 30),
     "rollbacks": (114, 27),
+    "plan_200": (84, 10),
+    "plan_2000": (249, 25),
 }
 LARGEST = ["belfast 1", "seqs 5", "shards 6", "window 16 0:4 1:4 2:4 3:4 4:4 5:4", "clients 0 1 2 3 4 5", "consumers 4 tally"]
 PLENTY = 400  # ticks and deliveries after each round of submissions: more than a round needs
@@ -82,10 +85,16 @@ def rollbacks():
     return lines + [f"drain {200_000 - made}"]
 
 
-def run(program, path):
+def plans(program):
+    """Generated plans of the seed 7, by their sizes."""
+    for size in [200, 2_000]:
+        yield f"plan_{size}", subprocess.run([program, "gen", "7", str(size)], check=True, capture_output=True).stdout
+
+
+def run(program, word, path):
     with open(path, "rb") as script, open(os.devnull, "wb") as sink:
         begin = time.perf_counter()
-        child = subprocess.Popen([program, "play"], stdin=script, stdout=sink)
+        child = subprocess.Popen([program, word], stdin=script, stdout=sink)
         _, status, usage = os.wait4(child.pid, 0)
         took = time.perf_counter() - begin
     if status != 0:
@@ -117,11 +126,25 @@ def memory(program, path):
     return size if size is not None else resource.getrusage(resource.RUSAGE_CHILDREN).ru_maxrss / 1024
 
 
-def instructions(program, path):
+def memory_of_run(program, path):
+    """The greatest resident size in MB of a run, read again and again until it ends."""
+    size = 0
+    with open(path, "rb") as plan:
+        child = subprocess.Popen([program, "run"], stdin=plan, stdout=subprocess.DEVNULL)
+    while child.poll() is None:
+        with open(f"/proc/{child.pid}/status", encoding="ascii") as status:
+            told = re.search(r"VmHWM:\s+(\d+)", status.read())
+        if told:
+            size = max(size, int(told.group(1)) / 1024)
+        time.sleep(0.001)
+    return size
+
+
+def instructions(program, word, path):
     """Millions of instructions of one run, or None where valgrind is not here."""
     if shutil.which("valgrind") is None:
         return None
-    tool = ["valgrind", "--tool=callgrind", "--callgrind-out-file=/dev/null", program, "play"]
+    tool = ["valgrind", "--tool=callgrind", "--callgrind-out-file=/dev/null", program, word]
     with open(path, "rb") as script:
         told = subprocess.run(tool, stdin=script, stdout=subprocess.DEVNULL, stderr=subprocess.PIPE, check=True).stderr.decode()
     return int(re.search(r"Collected : (\d+)", told).group(1)) / 1e6
@@ -140,13 +163,15 @@ def main():
         os.makedirs(folder, exist_ok=True)
         figures = {}
         print(f"{'script':14} {'instructions':>20} {'time':>10} {'memory':>18} {'faults':>8}")
-        for name, lines in scripts():
-            path = os.path.join(folder, f"{name}.script")
-            with open(path, "w", encoding="ascii") as script:
-                script.write("\n".join(lines) + "\n")
-            runs = [run(program, path) for _ in range(RUNS)]
-            took, size = min(run[0] for run in runs), memory(program, path)
-            counted = figures[name] = instructions(program, path)
+        texts = [(name, "play", ("\n".join(lines) + "\n").encode()) for name, lines in scripts()]
+        texts += [(name, "run", plan) for name, plan in plans(program)]
+        for name, word, text in texts:
+            path = os.path.join(folder, f"{name}.{'plan' if word == 'run' else 'script'}")
+            with open(path, "wb") as file:
+                file.write(text)
+            runs = [run(program, word, path) for _ in range(RUNS)]
+            took, size = min(run[0] for run in runs), memory_of_run(program, path) if word == "run" else memory(program, path)
+            counted = figures[name] = instructions(program, word, path)
             plain = PLAIN.get(name, (None, None))
             count = "-" if counted is None else f"{counted:.1f} M {ratio(counted, plain[0]):6}"
             print(f"{name:14} {count:>20} {took * 1000:7.1f} ms {size:7.1f} MB {ratio(size, plain[1]):6} {min(run[1] for run in runs):8}")

@@ -8,7 +8,8 @@ allocations (refuse_memory.c, which it builds with cc), and then starts the prog
 one fails and all that follow. With --sample N it is N numbers in all, spread over each file's, the first and the last among them.
 
 The answer must be status 6, `speclog: out of memory`, and on standard output nothing or a beginning of what comes with memory; no crash, no other
-status, and no start of more than two minutes. A further start without a failure must then answer as the first one did, and so must one that comes to no
+status, and no start of more than two minutes. A run may also go on, to its whole answer: where memory for the start of a thread is refused, the
+thread that starts it does its part. A further start without a failure must then answer as the first one did, and so must one that comes to no
 allocation of that number, as it may where threads take turns.
 
 Prints how many were refused memory, how many of these wrote a beginning, how many came to no such allocation, and the first that aren't as they should
@@ -99,8 +100,9 @@ def tried(job):
             answer, (_, refused) = starts.start(case.words, case.text, number, last)
             status, out, errors = answer
             counts["refused" if refused else "unreached"] += 1
-            counts["begun"] += refused > 0 and out != ""
-            if not ((status, errors) == REFUSED and case.answer[1].startswith(out) if refused else answer == case.answer):
+            counts["begun"] += (status, errors) == REFUSED and out != ""
+            wanted = (status, errors) == REFUSED and case.answer[1].startswith(out) if refused else answer == case.answer
+            if not wanted and not (case.words == ["run"] and answer == case.answer):
                 which = "" if last == number else " and all that follow"
                 wrong.append(f"{case.name}: allocation {number} of {case.allocations}{which}: status {status} {errors!r} {out[-60:]!r}")
     if starts.start(case.words, case.text)[0] != case.answer:

@@ -1,4 +1,6 @@
+pub mod Completing
 pub mod Inputs
 pub mod Refusing
-pub mod Completing
+pub mod Shelving
+pub mod Summing
 pub mod Usage

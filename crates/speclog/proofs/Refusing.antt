@@ -9,7 +9,7 @@ use Rattle.script_text.specs.Reading.{script_in, lines_in}
 use Rattle.script_text.proofs.ScriptLemmas.{lines_in_back}
 use Rattle.world.specs.Playing.{play_fault}
 use Rattle.speclog.specs.declared.fault.Fault.{Fault}
-use Rattle.speclog.specs.declared.fault.Fault.TheVariants.{Usage, ReadFault, InputTooLong, Script, NoMessage, TooLong, OutOfMemory, WriteFault}
+use Rattle.speclog.specs.declared.fault.Fault.TheVariants.{Usage, ReadFault, InputTooLong, Script, NoMessage, TooLong, ShelfFault, OutOfMemory, WriteFault}
 use Rattle.speclog.specs.Refusals.{at_line, fault_of_play, fault_of_script, fault_before, fault_of_reading, refusal_of, RefusesWith}
 
 -- ---- a text that the grammar refuses
@@ -44,6 +44,7 @@ accepted_before text line kind cfg given numbers e six s accepted =
 refuses_first : (fault : Fault) (o p : Option Fault) → RefusesWith fault o → RefusesWith fault (option_or o p)
 refuses_first OutOfMemory o p r = tt
 refuses_first (Usage word) o p r = ap (λ x. option_or x p) r
+refuses_first (ShelfFault name) o p r = ap (λ x. option_or x p) r
 refuses_first ReadFault o p r = ap (λ x. option_or x p) r
 refuses_first InputTooLong o p r = ap (λ x. option_or x p) r
 refuses_first (Script line kind) o p r = ap (λ x. option_or x p) r

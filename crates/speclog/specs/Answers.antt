@@ -2,15 +2,18 @@
 use Rattle.std.specs.Prelude.{◌≡◌, ◌↔◌, ◌⊎◌, ℕ, ◌<◌, Bool, true, false, IsTrue, not, ◌&&◌, List, length, Option, Some, None}
 use Rattle.std.specs.Io.KnownBytes.{prepend_known, IsAtEnd}
 use Rattle.spec_base.specs.Faults.{RoseByOne}
+use Rattle.cluster_run.specs.declared.record.RunRecord.{RunRecord}
 use Rattle.runs.specs.Names.{HistoryEntry}
 use Rattle.speclog.specs.declared.fault.Fault.{Fault}
 use Rattle.speclog.specs.declared.fault.Fault.TheVariants.{Usage, ReadFault, InputTooLong, Script, NoMessage, TooLong as too_many_entries, OutOfMemory}
-use Rattle.speclog.specs.declared.fault.Fault.TheVariants.{WriteFault}
+use Rattle.speclog.specs.declared.fault.Fault.TheVariants.{WriteFault, ShelfFault}
 use Rattle.speclog.specs.declared.input.ReadError.{ReadError}
 use Rattle.speclog.specs.declared.input.ReadError.TheVariants.{Failed, TooLong, OutOfMemory as read_out_of_memory}
-use Rattle.speclog.specs.Refusals.{refusal_of}
-use Rattle.speclog.specs.Plays.{Writes}
-use Rattle.speclog.specs.Words.{is_gen}
+use Rattle.speclog.specs.Refusals.{refusal_of, plan_refusal_of}
+use Rattle.speclog.specs.Plays.{Plays}
+use Rattle.speclog.specs.Runs.{Runs}
+use Rattle.speclog.specs.Words.{is_gen, is_run}
+use Rattle.speclog.specs.Writes.{Taken, Writes}
 
 -- the exit status of each fault
 abbrev pub status_of_fault : Fault → ℕ
@@ -22,6 +25,7 @@ status_of_fault (NoMessage line number sent) = 3
 status_of_fault (too_many_entries line) = 3
 status_of_fault OutOfMemory = 6
 status_of_fault WriteFault = 5
+status_of_fault (ShelfFault name) = 7
 
 -- the exit status of a command: 0 where it met no fault
 abbrev pub status_of : Option Fault → ℕ
@@ -61,6 +65,11 @@ abbrev pub is_write_fault : Option Fault → Bool
 is_write_fault (Some WriteFault) = true
 is_write_fault _ = false
 
+-- the answer blames a disk
+abbrev pub is_shelf_fault : Option Fault → Bool
+is_shelf_fault (Some (ShelfFault name)) = true
+is_shelf_fault _ = false
+
 -- a count over a command: one more where the answer blames its object, and else as it was
 abbrev pub CountsBlame : Bool → ℕ → ℕ → Type 0
 CountsBlame true old new = RoseByOne old new
@@ -68,7 +77,7 @@ CountsBlame false old new = new ≡ old
 
 -- ---- playing
 
--- of `play`: the script was played to its end, at the statuses 0 and 5
+-- of `play` and `run`: the script was played to its end, or the plan run, at the statuses 0 and 5
 abbrev pub has_history : Option Fault → Bool
 has_history None = true
 has_history (Some WriteFault) = true
@@ -78,7 +87,11 @@ has_history _ = false
 abbrev pub gives_history : List (List ℕ) → Option Fault → Bool
 gives_history words fault = not (is_gen words) && has_history fault
 
--- nothing was asked of the sink: the statuses 2, 3 and 4
+-- it gives what its readers saw
+abbrev pub gives_looks : List (List ℕ) → Option Fault → Bool
+gives_looks words fault = is_run words && has_history fault
+
+-- nothing was asked of the sink: the statuses 2, 3, 4 and 7
 abbrev pub is_unwritten : Option Fault → Bool
 is_unwritten None = false
 is_unwritten (Some WriteFault) = false
@@ -94,18 +107,31 @@ refusal_in _ = None
 
 -- ---- the whole answer
 
+-- what a source had left before a command, and what it has left at its end
+pub record Left : Type 0 where
+  pub before : Option (List ℕ)
+  pub after : Option (List ℕ)
+
 -- what an answer says of the input, of which these bytes were read, and of the sink: too many bytes exactly where it says so;
 -- where it speaks of the whole input, all of them, with the first refused line exactly where it names one; at the statuses 0
--- and 5 the history that the text's script makes; and what was written, of which nothing is out before all was read
-pub record SpeaksOf (left_before left_after taken_before taken_after : Option (List ℕ)) (fault : Option Fault) (history : Option
-    (List HistoryEntry)) : Type 0 where
+-- and 5 what the text makes; and what was written, of which nothing is out before all was read
+pub record SpeaksOf {T : Type 0} (refusal : List ℕ → Option Fault) (Makes : List ℕ → T → List ℕ → Type 0) (left : Left) (taken : Taken)
+    (fault : Option Fault) (made : Option T) : Type 0 where
   pub read : List ℕ
-  pub given : left_before ≡ prepend_known read left_after
+  pub given : left.before ≡ prepend_known read left.after
   pub too_long : (fault ≡ Some InputTooLong) ↔ (16777216 < length read)
-  pub whole : IsTrue (is_of_whole_input fault) → IsAtEnd left_after
-  pub refused : IsTrue (is_of_whole_input fault) → refusal_in fault ≡ refusal_of read
-  pub written : Writes fault history read taken_before taken_after
-  pub begun : fault ≡ Some OutOfMemory → (taken_after ≡ taken_before) ⊎ IsAtEnd left_after
+  pub whole : IsTrue (is_of_whole_input fault) → IsAtEnd left.after
+  pub refused : IsTrue (is_of_whole_input fault) → refusal_in fault ≡ refusal read
+  pub written : Writes Makes fault made read taken
+  pub begun : fault ≡ Some OutOfMemory → (taken.after ≡ taken.before) ⊎ IsAtEnd left.after
+
+-- an answer of `play`
+abbrev pub SpeaksOfScript : Left → Taken → Option Fault → Option (List HistoryEntry) → Type 0
+SpeaksOfScript = SpeaksOf refusal_of Plays
+
+-- an answer of `run`
+abbrev pub SpeaksOfPlan : Left → Taken → Option Fault → Option RunRecord → Type 0
+SpeaksOfPlan = SpeaksOf plan_refusal_of Runs
 
 -- an answer that can come once the input was read to its end
 abbrev pub is_after_reading : Option Fault → Bool

@@ -4,8 +4,8 @@ use Rattle.std.specs.Io.KnownBytes.{append_known}
 use Rattle.script_text.specs.Generated.{generated_plan}
 use Rattle.speclog.specs.declared.fault.Fault.{Fault}
 use Rattle.speclog.specs.declared.fault.Fault.TheVariants.{Usage, OutOfMemory, WriteFault}
-use Rattle.speclog.specs.Plays.{BeginsToWrite}
 use Rattle.speclog.specs.Words.{gen_of}
+use Rattle.speclog.specs.Writes.{Taken, BeginsToWrite}
 
 -- the words ask for a plan, and its text has this property
 abbrev pub OfPlan : List (List ℕ) → (List ℕ → Type 0) → Type 0
@@ -13,12 +13,12 @@ OfPlan words P = (seed : ℕ) × (size : ℕ) × (gen_of words ≡ Ok (seed, siz
 
 -- what stands at the sink after an answer: the whole plan at the end, a beginning of it where the sink failed; where memory was refused
 -- nothing or a beginning, and nothing where the words are no command's. There is no other answer
-abbrev pub Generates : List (List ℕ) → Option Fault → Option (List ℕ) → Option (List ℕ) → Type 0
-Generates words None before after = OfPlan words (λ plan. after ≡ append_known before plan)
-Generates words (Some WriteFault) before after = OfPlan words (BeginsToWrite before after)
-Generates words (Some OutOfMemory) before after = (after ≡ before) ⊎ OfPlan words (BeginsToWrite before after)
-Generates words (Some (Usage word)) before after = after ≡ before
-Generates words (Some _) before after = ⊥
+abbrev pub Generates : List (List ℕ) → Option Fault → Taken → Type 0
+Generates words None taken = OfPlan words (λ plan. taken.after ≡ append_known taken.before plan)
+Generates words (Some WriteFault) taken = OfPlan words (BeginsToWrite taken)
+Generates words (Some OutOfMemory) taken = (taken.after ≡ taken.before) ⊎ OfPlan words (BeginsToWrite taken)
+Generates words (Some (Usage word)) taken = taken.after ≡ taken.before
+Generates words (Some _) taken = ⊥
 
 -- the words `gen SEED SIZE`, and the sink's count of faults did not rise: then the plan is out, unless memory was refused
 abbrev pub IsGeneratedWhole : List (List ℕ) → Option Fault → Type 0 → Type 0

@@ -1,5 +1,8 @@
+pub mod Writes
 pub mod Refusals
 pub mod Plays
+pub mod Runs
+pub mod Shelves
 pub mod Words
 pub mod Generates
 pub mod Answers

@@ -5,10 +5,13 @@ use Rattle.std.specs.Option.{option_map, option_map_or, option_or}
 use Rattle.world.specs.Playing.{play_fault}
 use Rattle.world.specs.declared.errors.PlayError.{PlayError}
 use Rattle.world.specs.declared.errors.PlayError.TheVariants as play_errors
-use Rattle.script_text.specs.Names.{Config, Input}
+use Rattle.script_text.specs.Names.{Config, Input, Plan}
+use Rattle.script_text.specs.declared.errors.ScriptError.{ScriptError}
+use Rattle.script_text.specs.declared.errors.ScriptError.TheVariants as script_errors
 use Rattle.script_text.specs.Lines.{Line, numbers_of, counted_lines}
 use Rattle.script_text.specs.Scripts.{lines_before}
 use Rattle.script_text.specs.Reading.{Refusal, script_in, lines_in}
+use Rattle.script_text.specs.ReadingPlans.{plan_in}
 use Rattle.speclog.specs.declared.fault.Fault.{Fault}
 use Rattle.speclog.specs.declared.fault.Fault.TheVariants.{Script, NoMessage, TooLong, OutOfMemory}
 
@@ -39,6 +42,18 @@ fault_of_reading (Err refusal) text = option_or (fault_before refusal.0 text) (S
 -- the first line of a text that is refused, and why
 abbrev pub refusal_of : List ℕ → Option Fault
 refusal_of text = fault_of_reading (script_in text) text
+
+-- ---- of a plan
+
+abbrev pub fault_of_reading_plan : Result Plan ScriptError → Option Fault
+fault_of_reading_plan (Ok plan) = None
+fault_of_reading_plan (Err (script_errors.At line kind)) = Some (Script line kind)
+fault_of_reading_plan (Err (script_errors.TooLong line)) = Some (TooLong line)
+fault_of_reading_plan (Err script_errors.OutOfMemory) = None
+
+-- the first line of a plan's text that is refused, and why
+abbrev pub plan_refusal_of : List ℕ → Option Fault
+plan_refusal_of text = fault_of_reading_plan (plan_in text)
 
 -- ---- what the code's functions say
 

@@ -1,4 +1,6 @@
 use script_text::ScriptKind;
+use spec_base::{NodeId, Side};
+use std::fmt;
 use thiserror::Error;
 
 /// Why a command ended without doing all that it was to do. Each has a status and a line of text.
@@ -16,7 +18,7 @@ pub enum Fault {
     /// More than 16,777,216 bytes were read.
     #[error("input too long")]
     InputTooLong,
-    /// A line of the script is refused by the grammar.
+    /// A line of the script, or of the plan, is refused by the grammar.
     #[error("line {line}: {kind}")]
     Script {
         /// The first line that is refused, from 1.
@@ -33,11 +35,16 @@ pub enum Fault {
         /// How many messages were sent before it.
         sent: u64,
     },
-    /// A line of the script would bring the entries past 200,000.
+    /// A line of the script, or of the plan, would bring the entries past 200,000.
     #[error("line {line}: too many entries")]
     TooLong {
         /// The first line that is refused, from 1.
         line: u32,
+    },
+    /// The disk of a node's name failed, and once more as the call was repeated.
+    #[error(fmt = shelf_fault)]
+    ShelfFault {
+        name: NodeId,
     },
     /// Memory was refused.
     #[error("out of memory")]
@@ -64,6 +71,18 @@ impl Fault {
             Fault::ReadFault => 4,
             Fault::WriteFault => 5,
             Fault::OutOfMemory => 6,
+            Fault::ShelfFault { .. } => 7,
         }
+    }
+}
+
+/// The text of a shelf's fault.
+fn shelf_fault<W: fmt::Write>(name: &NodeId, f: &mut fmt::Formatter<W>) -> fmt::Result {
+    match *name {
+        NodeId::Seq(number) => write!(f, "shelf fault q{number}"),
+        NodeId::Shard(number, Side::Primary) => write!(f, "shelf fault s{number}p"),
+        NodeId::Shard(number, Side::Backup) => write!(f, "shelf fault s{number}b"),
+        NodeId::Client(number) => write!(f, "shelf fault c{number}"),
+        NodeId::Consumer(number) => write!(f, "shelf fault k{number}"),
     }
 }

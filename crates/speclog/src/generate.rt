@@ -1,9 +1,8 @@
 //! What `gen` does with a seed and a size.
 
-ghost use Rattle.std.specs.Prelude.{◌≡◌, ◌≤◌, None, Some, Ok, IsTrue, map, string_bytes};
+ghost use Rattle.std.specs.Prelude.{◌≡◌, ◌≤◌, Some, IsTrue};
 ghost use Rattle.spec_base.specs.Faults.{Rose};
-ghost use Rattle.speclog.specs.Answers.{status_of, usage_of, is_write_fault, is_unwritten, CountsBlame};
-ghost use Rattle.speclog.specs.Generates.{Generates, IsGeneratedWhole};
+ghost use Rattle.speclog.specs.Answers.{is_write_fault, is_unwritten, CountsBlame};
 ghost use Rattle.speclog.specs.inside.Generating.{WritesPlan};
 
 use crate::fault::Fault;
@@ -17,7 +16,7 @@ use std::alloc::Global;
 pub fn write_plan<K: Sink>(alloc: Global, seed: u32, size: u32, sink: &mut K) -> Option<Fault>
     requires least { 1 ≤ size }
     requires most { size ≤ 2000 }
-    ensures written { WritesPlan seed size result (K.taken sink.old) (K.taken sink.new) }
+    ensures written { WritesPlan seed size result (record { before = K.taken sink.old; after = K.taken sink.new }) }
     ensures sink_count { CountsBlame (is_write_fault result) (K.faults sink.old) (K.faults sink.new) }
     ensures unwritten { IsTrue (is_unwritten result) → sink.new ≡ sink.old }
     ensures write_fault { result ≡ Some Fault.WriteFault → Rose (K.faults sink.old) (K.faults sink.new) }

@@ -1,13 +1,14 @@
-//! A sharded, speculative shared log, as a program: `speclog play` turns a script into a report, `speclog gen` writes a plan.
+//! A sharded, speculative shared log, as a program: `speclog play` turns a script into a report, `speclog run` runs the nodes of a plan as threads
+//! and sums the run up, `speclog gen` writes a plan.
 #![tactic(auto)]
 
 mod fault;
 mod generate;
 mod input;
-mod looks;
 mod outcome;
 mod output;
 mod play;
+mod run;
 #[cfg(test)]
 mod tests;
 mod top;
@@ -26,7 +27,7 @@ use top::top;
 
 /// Runs the command of the words after the program's name, over standard input and output and a shelf in memory.
 fn main(rt: HostRuntime) -> ExitCode {
-    let outcome = match run(&rt) {
+    let outcome = match outcome_of(&rt) {
         Ok(outcome) => outcome,
         Err(OutOfMemory) => Outcome::refused(rt.alloc(), Fault::OutOfMemory),
     };
@@ -39,7 +40,8 @@ fn main(rt: HostRuntime) -> ExitCode {
     ExitCode::from(status)
 }
 
-fn run<R: AllocGlobal + Env + Input + Print + Threads + Wait + Sync>(
+/// How the command of the command line ends.
+fn outcome_of<R: AllocGlobal + Env + Input + Print + Threads + Wait + Sync>(
     rt: &R,
 ) -> Result<Outcome, OutOfMemory> {
     let words = words_of(rt)?;

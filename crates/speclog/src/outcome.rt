@@ -2,9 +2,9 @@ ghost use Rattle.std.specs.Prelude.{◌≡◌, None, Some, [], false};
 ghost use Rattle.speclog.specs.Answers.{status_of, status_of_fault};
 
 use crate::fault::Fault;
-use crate::looks::LooksList;
+use cluster_run::RunRecord;
+use cluster_users::Looks;
 use net_model::History;
-use quota_table::Listed;
 use std::alloc::Global;
 
 /// How a command ended.
@@ -14,11 +14,11 @@ pub struct Outcome {
     pub status: u8,
     /// None exactly at status 0.
     pub fault: Option<Fault>,
-    /// The run that was played: there exactly at the statuses 0 and 5 of `play`.
+    /// The run: there exactly at the statuses 0 and 5 of `play` and `run`.
     pub history: Option<History>,
-    /// What the readers of a threaded run kept; empty so far.
-    pub looks: LooksList,
-    /// Whether a threaded run ended by itself; false so far.
+    /// What the readers of `run` kept, in their order; empty but at its statuses 0 and 5.
+    pub looks: Vec<Looks>,
+    /// Whether the drain of `run` came to its end; false but at its statuses 0 and 5.
     pub quiet: bool,
 }
 
@@ -28,7 +28,7 @@ impl Outcome {
         ensures status { result.status ≡ status_of_fault fault }
         ensures fault { result.fault ≡ Some fault }
         ensures history { result.history ≡ None }
-        ensures looks { result.looks ≡ [] }
+        ensures looks { result.looks.items ≡ [] }
         ensures quiet { result.quiet ≡ false }
     {
         Outcome::written(alloc, Some(fault))
@@ -39,14 +39,14 @@ impl Outcome {
         ensures status { result.status ≡ status_of fault }
         ensures fault { result.fault ≡ fault }
         ensures history { result.history ≡ None }
-        ensures looks { result.looks ≡ [] }
+        ensures looks { result.looks.items ≡ [] }
         ensures quiet { result.quiet ≡ false }
     {
         Outcome {
             status: status_of(&fault),
             fault,
             history: None,
-            looks: Listed::new(alloc),
+            looks: Vec::new(alloc),
             quiet: false,
         }
     }
@@ -56,15 +56,37 @@ impl Outcome {
         ensures status { result.status ≡ status_of fault }
         ensures fault { result.fault ≡ fault }
         ensures history { result.history ≡ Some history }
-        ensures looks { result.looks ≡ [] }
+        ensures looks { result.looks.items ≡ [] }
         ensures quiet { result.quiet ≡ false }
     {
         Outcome {
             status: status_of(&fault),
             fault,
             history: Some(history),
-            looks: Listed::new(alloc),
+            looks: Vec::new(alloc),
             quiet: false,
+        }
+    }
+
+    /// A plan that was run to its end. Its summary may have met a fault on the way out.
+    pub fn ran(made: RunRecord, fault: Option<Fault>) -> Outcome
+        ensures status { result.status ≡ status_of fault }
+        ensures fault { result.fault ≡ fault }
+        ensures history { result.history ≡ Some made.history }
+        ensures looks { result.looks ≡ made.looks }
+        ensures quiet { result.quiet ≡ made.quiet }
+    {
+        let RunRecord {
+            history,
+            looks,
+            quiet,
+        } = made;
+        Outcome {
+            status: status_of(&fault),
+            fault,
+            history: Some(history),
+            looks,
+            quiet,
         }
     }
 }

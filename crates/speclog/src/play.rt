@@ -1,6 +1,6 @@
 //! What `play` does with a script that was read to its end.
 
-ghost use Rattle.std.specs.Prelude.{◌≡◌, ◌≤◌, false, ℕ, List, [], length, Ok, Err, None, Some, is_some, IfSome, IfOk, IfErr, OnOk, IsTrue};
+ghost use Rattle.std.specs.Prelude.{◌≡◌, ◌≤◌, false, ℕ, List, [], length, Ok, Err, None, Some, is_some, IfSome, IfOk, IfErr, OnOk, IsFalse, IsTrue};
 ghost use Rattle.std.specs.List.{AllByRecursion};
 ghost use Rattle.spec_base.specs.Faults.{Rose};
 ghost use Rattle.msg_wire.specs.Valid.{IsValidConfig};
@@ -12,9 +12,11 @@ ghost use Rattle.script_text.specs.Reading.{script_in};
 ghost use Rattle.script_text.specs.Scripts.{SpellsScript};
 ghost use Rattle.runs.specs.Laws.{IsRun, IsSafe, CutsAreTrue, IsEager};
 ghost use Rattle.world.specs.Playing.{history_of, play_fault};
-ghost use Rattle.speclog.specs.Answers.{status_of, has_history, is_of_whole_input, is_after_reading, refusal_in, is_write_fault, is_unwritten, CountsBlame};
+ghost use Rattle.speclog.specs.Answers.{status_of, has_history, is_of_whole_input, is_after_reading, refusal_in, is_shelf_fault, is_write_fault};
+ghost use Rattle.speclog.specs.Answers.{is_unwritten, CountsBlame};
 ghost use Rattle.report_text.specs.Report.{report_of};
-ghost use Rattle.speclog.specs.Plays.{Plays, BeginsToWrite, Writes};
+ghost use Rattle.speclog.specs.Plays.{Plays};
+ghost use Rattle.speclog.specs.Writes.{BeginsToWrite, Writes};
 ghost use Rattle.speclog.specs.Refusals.{refusal_of, fault_of_play, at_line, RefusesWith, IsWithin};
 
 use crate::fault::Fault;
@@ -35,16 +37,20 @@ pub fn play_text<K: Sink>(alloc: Global, text: &[u8], sink: &mut K) -> Outcome
     requires { length text.now ≤ 16777216 }
     ensures status { result.status ≡ status_of result.fault }
     ensures history { is_some result.history ≡ has_history result.fault }
-    ensures looks { result.looks ≡ [] }
+    ensures looks { result.looks.items ≡ [] }
     ensures quiet { result.quiet ≡ false }
 
     ensures after_reading { IsTrue (is_after_reading result.fault) }
+    ensures shelf_fault { IsFalse (is_shelf_fault result.fault) }
     ensures refused { IsTrue (is_of_whole_input result.fault) → refusal_in result.fault ≡ refusal_of text.now }
     ensures sink_count { CountsBlame (is_write_fault result.fault) (K.faults sink.old) (K.faults sink.new) }
     ensures unwritten { IsTrue (is_unwritten result.fault) → sink.new ≡ sink.old }
     ensures write_fault { result.fault ≡ Some Fault.WriteFault → Rose (K.faults sink.old) (K.faults sink.new) }
-    ensures written { Writes result.fault result.history text.now (K.taken sink.old) (K.taken sink.new) }
-    ensures safe { IfSome result.history (λ history. (cfg : Config) × (inputs : List Input) × (numbers : List ℕ) × SpellsScript text.now cfg inputs numbers × (history ≡ history_of cfg inputs) × IsRun cfg history × IsSafe cfg (past_of history) × CutsAreTrue cfg (past_of history) × IsEager cfg (past_of history) × BeginsToWrite (K.taken sink.old) (K.taken sink.new) (report_of cfg history)) }
+    ensures written { Writes Plays result.fault result.history text.now (record { before = K.taken sink.old; after = K.taken sink.new }) }
+    ensures safe { IfSome result.history (λ history. (cfg : Config) × (inputs : List Input) × (numbers : List ℕ)
+        × SpellsScript text.now cfg inputs numbers × (history ≡ history_of cfg inputs)
+        × IsRun cfg history × IsSafe cfg (past_of history) × CutsAreTrue cfg (past_of history) × IsEager cfg (past_of history)
+        × BeginsToWrite (record { before = K.taken sink.old; after = K.taken sink.new }) (report_of cfg history)) }
 {
     let Played { history, report } = match play_whole(alloc, text) {
         Ok(played) => played,

@@ -6,7 +6,7 @@ use crate::fault::Fault;
 use crate::outcome::Outcome;
 use crate::top::top;
 use quota_table::{Bytes, OutOfMemory};
-use spec_base::{MemShelf, MemSink, MemSource};
+use spec_base::{DiskFail, MemShelf, MemSink, MemSource};
 use std::alloc::Global;
 use std::sync::Wait;
 use std::test::Fail;
@@ -15,6 +15,7 @@ use std::thread::Threads;
 mod faults;
 mod generating;
 mod refusals;
+mod running;
 
 /// The head of one sequencer, one shard, one client and one consumer, with a window of 2 rounds of one place.
 const HEAD: &str = "belfast 1\nseqs 1\nshards 1\nwindow 2 0:1\nclients 0\nconsumers 1 tally\n";
@@ -52,18 +53,46 @@ fn words_of(alloc: Global, texts: &[&str]) -> Result<Vec<String>, OutOfMemory> {
     Ok(words)
 }
 
-fn run<R: AllocGlobal + Threads + Wait + Sync>(
+/// The command of these words over memory and this shelf.
+fn on_shelf<R: AllocGlobal + Threads + Wait + Sync>(
     rt: &R,
     texts: &[&str],
     source: &mut MemSource,
     sink: &mut MemSink,
+    fails: &[DiskFail],
 ) -> Result<Outcome, OutOfMemory> {
     let words = words_of(rt.alloc(), texts)?;
-    let mut shelf = MemShelf::new(rt.alloc(), &[])?;
+    let mut shelf = MemShelf::new(rt.alloc(), fails)?;
     Ok(top(rt, words.as_slice(), source, sink, &mut shelf))
 }
 
-/// The command of these words over memory, in pieces of at most `most` bytes, where these calls of the source and of the sink fail.
+/// Which calls fail of a source, of a sink, and of the shelf's disks.
+#[derive(Clone, Copy)]
+struct Fails<'a> {
+    reads: &'a [u64],
+    writes: &'a [u64],
+    disks: &'a [DiskFail],
+}
+
+/// The command of these words over memory, in pieces of at most `most` bytes, where these calls fail.
+fn command_with<R: AllocGlobal + Threads + Wait + Sync>(
+    rt: &R,
+    texts: &[&str],
+    text: &[u8],
+    most: usize,
+    fails: Fails<'_>,
+) -> Result<Played, OutOfMemory>
+    requires { 1 ≤ most }
+{
+    let alloc = rt.alloc();
+    let mut source = MemSource::new(alloc, text, most, fails.reads)?;
+    let mut sink = MemSink::new(alloc, most, fails.writes)?;
+    let outcome = on_shelf(rt, texts, &mut source, &mut sink, fails.disks)?;
+    let written = Bytes::from_slice(alloc, sink.taken())?;
+    Ok(Played { outcome, written })
+}
+
+/// The command of these words over memory, where these calls of the source and of the sink fail.
 fn command<R: AllocGlobal + Threads + Wait + Sync>(
     rt: &R,
     texts: &[&str],
@@ -73,24 +102,25 @@ fn command<R: AllocGlobal + Threads + Wait + Sync>(
 ) -> Result<Played, OutOfMemory>
     requires { 1 ≤ most }
 {
-    let alloc = rt.alloc();
     let (reads, writes) = fails;
-    let mut source = MemSource::new(alloc, text, most, reads)?;
-    let mut sink = MemSink::new(alloc, most, writes)?;
-    let outcome = run(rt, texts, &mut source, &mut sink)?;
-    let written = Bytes::from_slice(alloc, sink.taken())?;
-    Ok(Played { outcome, written })
+    let fails = Fails {
+        reads,
+        writes,
+        disks: &[],
+    };
+    command_with(rt, texts, text, most, fails)
 }
 
-/// The fault of a text that is read in pieces of at most `most` bytes, at which nothing is written; None where it is played.
+/// The fault of a text that this command reads in pieces of at most `most` bytes, at which nothing is written; None where it is played.
 fn fault_of<R: AllocGlobal + Threads + Wait + Sync>(
     rt: &R,
+    name: &str,
     text: &[u8],
     most: usize,
 ) -> Result<Option<Fault>, OutOfMemory>
     requires { 1 ≤ most }
 {
-    let played = command(rt, &["play"], text, most, (&[], &[]))?;
+    let played = command(rt, &[name], text, most, (&[], &[]))?;
     let silent = played.written.is_empty();
     Ok(played.outcome.fault.filter(|_fault| silent))
 }

@@ -1,7 +1,7 @@
 //! The words of the command line.
 
 ghost use Rattle.std.specs.Prelude.{◌≡◌, ◌≤◌, map, string_bytes, IfSome, IfOk};
-ghost use Rattle.speclog.specs.Words.{play_place, is_gen, gen_of, after_gen, number_from};
+ghost use Rattle.speclog.specs.Words.{command_place, begins_with, gen_of, after_gen, number_from};
 
 use record_codec::decimal::number;
 
@@ -11,14 +11,14 @@ const MOST_DIGITS: usize = 18;
 /// The greatest size of a generated plan.
 const MOST_SIZE: u32 = 2_000;
 
-/// The place of the first word that is not of the form `play`; None where the words are of that form.
-pub fn misplaced(words: &[String]) -> Option<usize>
-    ensures { result ≡ play_place (map string_bytes words.now) }
+/// The place of the first word that is not of the form of a command with no further word; None where the words are of that form.
+pub fn misplaced(name: &str, words: &[String]) -> Option<usize>
+    ensures { result ≡ command_place name.now (map string_bytes words.now) }
 {
     match words {
         [] => Some(0),
         [command, rest @ ..] => {
-            if command.as_str() != "play" {
+            if command.as_str() != name {
                 Some(0)
             } else if rest.is_empty() {
                 None
@@ -29,13 +29,13 @@ pub fn misplaced(words: &[String]) -> Option<usize>
     }
 }
 
-/// Whether the words are those of `gen`.
-pub fn is_gen(words: &[String]) -> bool
-    ensures { result ≡ is_gen (map string_bytes words.now) }
+/// Whether the first of the words is this one.
+pub fn begins_with(name: &str, words: &[String]) -> bool
+    ensures { result ≡ begins_with name.now (map string_bytes words.now) }
 {
     match words {
         [] => false,
-        [command, ..] => command.as_str() == "gen",
+        [command, ..] => command.as_str() == name,
     }
 }
 

@@ -49,10 +49,12 @@ fn plays_byte_by_byte(rt: HostRuntime) -> Result<(), Fail> {
 }
 
 /// Words, and the place of the first that does not fit.
-const WORDS: [(&[&str], usize); 16] = [
+const WORDS: [(&[&str], usize); 18] = [
     (&["play", "x"], 1),
     (&[], 0),
-    (&["run"], 0),
+    (&["run", "x"], 1),
+    (&["run", "play", "x"], 1),
+    (&["Run"], 0),
     (&["Play"], 0),
     (&["gen"], 1),
     (&["gen", "7"], 2),

@@ -161,7 +161,11 @@ const INPUTS: [(&str, Option<Fault>); 22] = [
 fn names_the_first_refused_line(rt: HostRuntime) -> Result<(), Fail> {
     for (inputs, fault) in INPUTS {
         let text = joined(rt.alloc(), HEAD, inputs.as_bytes())?;
-        assert_eq!(rt; fault_of(&rt, text.as_slice(), 4096)?, fault, "{inputs}");
+        assert_eq!(rt;
+            fault_of(&rt, "play", text.as_slice(), 4096)?,
+            fault,
+            "{inputs}"
+        );
     }
     Ok(())
 }
@@ -208,7 +212,7 @@ fn takes_so_many_bytes(rt: HostRuntime) -> Result<(), Fail> {
         let mut text = joined(rt.alloc(), start, b"")?;
         fill(&mut text, byte, count)?;
         assert_eq!(rt;
-            fault_of(&rt, text.as_slice(), 4096)?,
+            fault_of(&rt, "play", text.as_slice(), 4096)?,
             fault,
             "{count} bytes"
         );
@@ -346,7 +350,7 @@ fn refuses_what_is_cut_short(rt: HostRuntime) -> Result<(), Fail> {
         let (short, _) = SCRIPT.as_bytes().split_at(len);
         for most in [1, 4096] {
             assert_eq!(rt;
-                fault_of(&rt, short, most)?,
+                fault_of(&rt, "play", short, most)?,
                 fault_of_cut(len),
                 "{len} bytes by {most}"
             );
